@@ -1,0 +1,6 @@
+pub mod Codes
+pub mod Span
+pub mod Leb
+pub mod Reading
+pub mod Times
+pub mod Walk

@@ -1,0 +1,122 @@
+-- The fields of a section as functions of its bytes: the value and the place behind it, or the fault.
+use Rattle.std.specs.Prelude.{◌≡◌, ℕ, ◌+◌, ◌-◌, ◌^◌, ◌≤◌, ◌==◌, ◌⊎◌, nat_lt, nat_le, Bool, true, false, cond, if◌then◌else◌, List, length, take, drop, position, Option, Some, None, Result, Ok, Err, ℤ}
+use Rattle.byteorder.specs.Endian.{little_number, big_number}
+use Rattle.dw_fields.specs.declared.byte_order.Order.{Order}
+use Rattle.dw_fields.specs.declared.byte_order.Order.TheVariants.{Little, Big}
+use Rattle.dw_fields.specs.declared.fault_code.Code.{Code}
+use Rattle.dw_fields.specs.declared.fault_code.Code.TheVariants.{Truncated, LengthReserved, LebTooLarge, TextUnended}
+use Rattle.dw_fields.specs.declared.fault_code.Fault.{Fault}
+use Rattle.dw_fields.specs.declared.cursor.Length.{Length}
+use Rattle.dw_fields.specs.Codes.{fault, renamed_fault}
+use Rattle.dw_fields.specs.Span.{Span, at, until, rest_of}
+use Rattle.dw_fields.specs.Leb.{leb_sum, signed_leb_sum, within_signed}
+
+-- what stands at a place: the value and the place behind it, or the fault
+abbrev pub Reader : Type 0 → Type 0
+Reader X = Span → Result (X × ℕ) Fault
+
+-- one answer after another: the first fault is the answer
+infixl 10 ◌>>=◌
+abbrev pub ◌>>=◌ : {A B : Type 0} → Result A Fault → (A → Result B Fault) → Result B Fault
+Ok a >>= f = f a
+Err e >>= f = Err e
+
+infixl 10 ◌>>◌
+abbrev pub ◌>>◌ : {A B : Type 0} → Result A Fault → Result B Fault → Result B Fault
+a >> b = a >>= (λ _. b)
+
+-- the fault, if the test holds
+abbrev pub refuse : Bool → Fault → Result (Unit {0}) Fault
+refuse bad f = cond bad (Err f) (Ok tt)
+
+-- a fault of the cause `from` gets the cause `to`, at its place
+abbrev pub renamed : {X : Type 0} → Code → Code → Result X Fault → Result X Fault
+renamed from to (Ok x) = Ok x
+renamed from to (Err f) = Err (renamed_fault from to f)
+
+-- a fault counts at the given place
+abbrev pub placed : {X : Type 0} → ℕ → Result X Fault → Result X Fault
+placed place (Ok x) = Ok x
+placed place (Err f) = Err (fault f.code place)
+
+-- The answer is the reader's, seen by `view`; the cut stands behind the field, or as it was at a fault.
+abbrev pub Gives : {X Y : Type 0} → (X → Y) → Result X Fault → Reader Y → Span → Span → Type 0
+Gives view (Ok x) read old new = (read old ≡ Ok (view x, new.place)) × (new ≡ at old new.place)
+Gives view (Err f) read old new = (read old ≡ Err f) × (new ≡ old)
+
+-- the same where nothing is said of the cut after a fault
+abbrev pub Reads : {X Y : Type 0} → (X → Y) → Result X Fault → Reader Y → Span → Span → Type 0
+Reads view (Ok x) read old new = (read old ≡ Ok (view x, new.place)) × (new ≡ at old new.place)
+Reads view (Err f) read old new = read old ≡ Err f
+
+-- the cut moves by at least so many bytes and stays within its end
+pub record Moves (least : ℕ) (old new : Span) : Type 0 where
+  pub forward : old.place + least ≤ new.place
+  pub inside : new.place ≤ old.end
+
+-- an address has 2, 4 or 8 bytes
+abbrev pub IsAddressSize : ℕ → Type 0
+IsAddressSize size = (size ≡ 2) ⊎ (size ≡ 4) ⊎ (size ≡ 8)
+
+-- The number of the first n bytes: the sum of each byte times 256 to the power of its place, which
+-- counts from the first byte (little) or from the last of the n (big).
+abbrev pub number_of : Order → ℕ → List ℕ → ℕ
+number_of Little n bytes = little_number n bytes
+number_of Big n bytes = big_number n bytes
+
+-- n bytes
+unfoldable pub bytes_at : ℕ → Reader (List ℕ)
+bytes_at n s =
+    if nat_le (s.place + n) s.end then Ok (take n (drop s.place s.bytes), s.place + n)
+    else Err (fault Truncated s.place)
+
+-- a number of n bytes
+unfoldable pub number_at : ℕ → Reader ℕ
+number_at n s = do
+  field ← bytes_at n s
+  Ok (number_of s.order n field.0, field.1)
+
+-- an offset: 8 bytes in the 64-bit format (wide), else 4 (DWARF 5 section 7.4)
+unfoldable pub offset_at : Bool → Reader ℕ
+offset_at wide s = number_at (if wide then 8 else 4) s
+
+-- an initial length (DWARF 5 section 7.4), each fault at its first byte
+unfoldable pub length_at : Reader Length
+length_at s = do
+  word ← number_at 4 s
+  (if nat_lt word.0 0xfffffff0 then Ok (record { wide = false; value = word.0 }, word.1)
+      else (if word.0 == 0xffffffff then (do
+        long ← placed s.place (number_at 8 (at s word.1))
+        Ok (record { wide = true; value = long.0 }, long.1))
+      else Err (fault LengthReserved s.place)))
+
+-- how many bytes before the end have a set top bit, up to the first that hasn't
+abbrev pub last_group : List ℕ → Option ℕ
+last_group bytes = position (λ b. nat_lt b 128) bytes
+
+-- The unsigned number that the bytes up to the first clear top bit spell: it passes the end where
+-- there is no such byte, and goes before a value outside 64 bits.
+unfoldable pub uleb_at : Reader ℕ
+uleb_at s = elim (last_group (rest_of s)) [
+  | None ↦ Err (fault Truncated s.place)
+  | Some n ↦ (if nat_lt (leb_sum (take (n + 1) (rest_of s))) (2 ^ 64)
+      then Ok (leb_sum (take (n + 1) (rest_of s)), s.place + (n + 1))
+      else Err (fault LebTooLarge s.place))
+]
+
+-- the same for a signed number
+unfoldable pub sleb_at : Reader ℤ
+sleb_at s = elim (last_group (rest_of s)) [
+  | None ↦ Err (fault Truncated s.place)
+  | Some n ↦ (elim (within_signed (signed_leb_sum (take (n + 1) (rest_of s)))) [
+    | None ↦ Err (fault LebTooLarge s.place)
+    | Some z ↦ Ok (z, s.place + (n + 1))
+  ])
+]
+
+-- the bytes before the next zero byte, which is passed too
+unfoldable pub text_at : Reader (List ℕ)
+text_at s = elim (position (λ b. b == 0) (rest_of s)) [
+  | None ↦ Err (fault TextUnended s.place)
+  | Some n ↦ Ok (take n (rest_of s), s.place + (n + 1))
+]

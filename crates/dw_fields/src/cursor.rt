@@ -1,0 +1,302 @@
+//! A part of a section with a place in it, and the fields that can stand there.
+
+ghost use Rattle.std.specs.Prelude.{◌≡◌, ◌+◌, ◌<◌, ◌≤◌, ◌^◌, ◌==◌, false, length, position, OnOk, IfOk, IfSome, if◌then◌else◌};
+ghost use Rattle.dw_fields.specs.Span.{rest_of, until};
+ghost use Rattle.dw_fields.specs.Reading.{Gives, Moves, bytes_at, number_at, offset_at, length_at, text_at};
+
+use crate::byte_order::Order;
+use crate::fault_code::{Code, Fault};
+use byteorder::{BigEndian, ByteOrder, LittleEndian};
+use std::marker::Model;
+
+/// An initial length (DWARF 5 section 7.4): the number of bytes behind it, and whether it is one of
+/// the 64-bit format.
+#[derive(Clone, Copy, Debug, PartialEq, Eq)]
+pub struct Length {
+    pub wide: bool,
+    pub value: u64,
+}
+
+/// A part of a section that is read from front to back. Places are offsets from the section's start.
+#[derive(Drop)]
+pub struct Cut<'a> {
+    bytes: &'a [u8],
+    place: u64,
+    end: u64,
+    order: Order,
+}
+
+impl<'a> Model for Cut<'a> {
+    ghost use Rattle.std.specs.Prelude.{◌≤◌, length};
+    ghost use Rattle.dw_fields.specs.Span.{Span};
+
+    ghost Value = { Span };
+
+    ghost view = { λ c. record { bytes = c.bytes.now; place = c.place; end = c.end; order = c.order } };
+
+    ghost invariant = { λ c. (c.place ≤ c.end) × (c.end ≤ length c.bytes.now) };
+}
+
+impl<'a> Cut<'a> {
+    /// The part of `bytes` from `place` up to `end`.
+    #[inline]
+    pub fn new(bytes: &'a [u8], place: u64, end: u64, order: Order) -> Cut<'a>
+        requires begins { place ≤ end }
+        requires ends { end ≤ length bytes.now }
+        ensures { result ≡ record { bytes = bytes.entry.now; place = place; end = end; order = order } }
+    {
+        Cut {
+            bytes,
+            place,
+            end,
+            order,
+        }
+    }
+
+    /// The offset of the next field from the section's start.
+    #[inline]
+    pub fn place(&self) -> u64
+        ensures value { result ≡ self.now.place }
+        ensures within { result ≤ self.now.end }
+    {
+        self.place
+    }
+
+    /// The offset that no field passes.
+    #[inline]
+    pub fn end(&self) -> u64
+        ensures value { result ≡ self.now.end }
+        ensures within { result ≤ length self.now.bytes }
+    {
+        self.end
+    }
+
+    /// How many bytes are left.
+    #[inline]
+    pub fn left(&self) -> u64
+        ensures { self.now.place + result ≡ self.now.end }
+    {
+        self.end - self.place
+    }
+
+    /// The same part once more, to be read ahead.
+    #[inline]
+    pub fn fork(&self) -> Cut<'a>
+        ensures { result ≡ self.now }
+    {
+        Cut {
+            bytes: self.bytes,
+            place: self.place,
+            end: self.end,
+            order: self.order,
+        }
+    }
+
+    /// The next `n` bytes as a part of their own, which no field passes.
+    #[inline]
+    pub fn front(&self, n: u64) -> Cut<'a>
+        requires { self.now.place + n ≤ self.now.end }
+        ensures { result ≡ until self.now (self.now.place + n) }
+    {
+        Cut {
+            bytes: self.bytes,
+            place: self.place,
+            end: self.place + n,
+            order: self.order,
+        }
+    }
+
+    /// Moves past the next `n` bytes.
+    #[inline]
+    pub fn pass(&mut self, n: u64)
+        requires { self.old.place + n ≤ self.old.end }
+        ensures { self.new ≡ record self.old { place = self.old.place + n } }
+    {
+        self.place += n;
+    }
+
+    /// The next `n` bytes.
+    ///
+    /// # Errors
+    /// `Truncated` at the place where fewer bytes are left.
+    #[inline]
+    #[tactic(auto, unfolding(crate::specs::Reading::bytes_at))]
+    pub fn bytes(&mut self, n: u64) -> Result<&'a [u8], Fault>
+        ensures field { Gives (λ x. x.now) result (bytes_at n) self.old self.new }
+        ensures moves { OnOk result (Moves n self.old self.new) }
+        ensures size { IfOk result (λ x. length x.now ≡ n) }
+    {
+        let start = self.place;
+        if n > self.end - start {
+            return Err(Fault {
+                code: Code::Truncated,
+                place: start,
+            });
+        }
+        let bytes = self.bytes;
+        self.place = start + n;
+        Ok(&bytes[start as usize..(start + n) as usize])
+    }
+
+    /// A byte.
+    ///
+    /// # Errors
+    /// `Truncated` at the place where none is left.
+    #[inline]
+    #[tactic(auto, unfolding(crate::specs::Reading::number_at))]
+    pub fn u8(&mut self) -> Result<u8, Fault>
+        ensures field { Gives (λ x. x) result (number_at 1) self.old self.new }
+        ensures moves { OnOk result (Moves 1 self.old self.new) }
+    {
+        let field = self.bytes(1)?;
+        Ok(field[0])
+    }
+
+    /// A number of 2 bytes.
+    ///
+    /// # Errors
+    /// `Truncated` at the place where fewer bytes are left.
+    #[inline]
+    #[tactic(auto, unfolding(crate::specs::Reading::number_at))]
+    pub fn u16(&mut self) -> Result<u16, Fault>
+        ensures field { Gives (λ x. x) result (number_at 2) self.old self.new }
+        ensures moves { OnOk result (Moves 2 self.old self.new) }
+    {
+        let order = self.order;
+        let field = self.bytes(2)?;
+        Ok(match order {
+            Order::Little => LittleEndian::read_u16(field),
+            Order::Big => BigEndian::read_u16(field),
+        })
+    }
+
+    /// A number of 4 bytes.
+    ///
+    /// # Errors
+    /// `Truncated` at the place where fewer bytes are left.
+    #[inline]
+    #[tactic(auto, unfolding(crate::specs::Reading::number_at))]
+    pub fn u32(&mut self) -> Result<u32, Fault>
+        ensures field { Gives (λ x. x) result (number_at 4) self.old self.new }
+        ensures moves { OnOk result (Moves 4 self.old self.new) }
+    {
+        let order = self.order;
+        let field = self.bytes(4)?;
+        Ok(match order {
+            Order::Little => LittleEndian::read_u32(field),
+            Order::Big => BigEndian::read_u32(field),
+        })
+    }
+
+    /// A number of 8 bytes.
+    ///
+    /// # Errors
+    /// `Truncated` at the place where fewer bytes are left.
+    #[inline]
+    #[tactic(auto, unfolding(crate::specs::Reading::number_at))]
+    pub fn u64(&mut self) -> Result<u64, Fault>
+        ensures field { Gives (λ x. x) result (number_at 8) self.old self.new }
+        ensures moves { OnOk result (Moves 8 self.old self.new) }
+    {
+        let order = self.order;
+        let field = self.bytes(8)?;
+        Ok(match order {
+            Order::Little => LittleEndian::read_u64(field),
+            Order::Big => BigEndian::read_u64(field),
+        })
+    }
+
+    /// An offset: 8 bytes in the 64-bit format (`wide`), else 4.
+    ///
+    /// # Errors
+    /// `Truncated` at the place where fewer bytes are left.
+    #[inline]
+    #[tactic(auto, unfolding(crate::specs::Reading::offset_at))]
+    pub fn offset(&mut self, wide: bool) -> Result<u64, Fault>
+        ensures field { Gives (λ x. x) result (offset_at wide) self.old self.new }
+        ensures moves { OnOk result (Moves (if wide then 8 else 4) self.old self.new) }
+        ensures fits { wide ≡ false → IfOk result (λ x. x < 2 ^ 32) }
+    {
+        if wide {
+            return self.u64();
+        }
+        match self.u32() {
+            Ok(offset) => Ok(u64::from(offset)),
+            Err(fault) => Err(fault),
+        }
+    }
+
+    /// An initial length.
+    ///
+    /// # Errors
+    /// At the length's first byte: `Truncated` where the length passes the end, `LengthReserved` where
+    /// its first word is from 0xfffffff0 to 0xfffffffe.
+    #[tactic(auto, unfolding(crate::specs::Reading::length_at))]
+    pub fn length(&mut self) -> Result<Length, Fault>
+        ensures field { Gives (λ x. x) result length_at self.old self.new }
+        ensures moves { OnOk result (Moves 4 self.old self.new) }
+    {
+        let mut ahead = self.fork();
+        let word = ahead.u32()?;
+        if word < 0xffff_fff0 {
+            *self = ahead;
+            return Ok(Length {
+                wide: false,
+                value: u64::from(word),
+            });
+        }
+        if word != 0xffff_ffff {
+            return Err(Fault {
+                code: Code::LengthReserved,
+                place: self.place,
+            });
+        }
+        match ahead.u64() {
+            Ok(value) => {
+                *self = ahead;
+                Ok(Length { wide: true, value })
+            }
+            Err(fault) => Err(Fault {
+                code: fault.code,
+                place: self.place,
+            }),
+        }
+    }
+
+    /// The bytes before the next zero byte, which is passed too.
+    ///
+    /// # Errors
+    /// `TextUnended` at the place where no zero byte stands before the end.
+    #[tactic(auto, unfolding(crate::specs::Reading::text_at))]
+    pub fn text(&mut self) -> Result<&'a [u8], Fault>
+        ensures field { Gives (λ x. x.now) result text_at self.old self.new }
+        ensures moves { OnOk result (Moves 1 self.old self.new) }
+    {
+        let rest = self.rest();
+        match zero_place(rest) {
+            Some(count) => {
+                self.place += count as u64 + 1;
+                Ok(&rest[..count])
+            }
+            None => Err(Fault {
+                code: Code::TextUnended,
+                place: self.place,
+            }),
+        }
+    }
+
+    #[inline]
+    fn rest(&self) -> &'a [u8]
+        ensures value { result.now ≡ rest_of self.now }
+        ensures size { self.now.place + length result.now ≡ self.now.end }
+    {
+        &self.bytes[self.place as usize..self.end as usize]
+    }
+}
+
+fn zero_place(bytes: &[u8]) -> Option<usize>
+    ensures place { result ≡ position (λ b. b == 0) bytes.now }
+    ensures within { IfSome result (λ n. n < length bytes.now) }
+{
+    bytes.iter().position(|byte| *byte == 0)
+}

@@ -1,7 +1,7 @@
 -- What a file's section table holds, as lists of bytes and numbers.
 use Rattle.std.specs.Prelude.{ℕ, ◌<◌, ◌^◌, List, [], ◌∷◌, Option, Some, None, length, codes, if◌then◌else◌, unwrap_or, option_map, IfSome}
 use Rattle.std.specs.Str.{bytes_eq}
-use Rattle.elf_sections.specs.declared.order.Order.{Order}
+use Rattle.dw_fields.specs.declared.byte_order.Order.{Order}
 
 -- one section header, with the name and the bytes that it stands for (gABI chapter 4, "Sections")
 pub record Row : Type 0 where
@@ -25,4 +25,3 @@ bytes_named name (row ∷ rows) = if bytes_eq row.name name then Some row.bytes 
 abbrev pub AllShort : List Row → Type 0
 AllShort [] = Unit {0}
 AllShort (row ∷ rows) = (length row.bytes < 2 ^ 32) × AllShort rows
-

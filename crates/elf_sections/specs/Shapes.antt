@@ -1,6 +1,6 @@
 -- How a contract sees sections and the bytes behind their references.
 use Rattle.std.specs.Prelude.{ℕ, ◌<◌, ◌^◌, List, [], ◌∷◌, Option, Some, None, length, codes, unwrap_or, option_map, IfSome}
-use Rattle.elf_sections.specs.declared.order.Order.{Order}
+use Rattle.dw_fields.specs.declared.byte_order.Order.{Order}
 use Rattle.elf_sections.specs.declared.headed.Section.{Section}
 use Rattle.elf_sections.specs.declared.debug.Sections.{Sections}
 use Rattle.elf_sections.specs.Rows.{Row, ElfView, bytes_named}
@@ -27,39 +27,39 @@ pub record SectionsView : Type 0 where
 
 abbrev pub sections_view : Sections → SectionsView
 sections_view s = record {
-    order = s.order;
-    info = s.info.now;
-    «abbrev» = s.«abbrev».now;
-    text = option_map (λ b. b.now) s.text;
-    line_text = option_map (λ b. b.now) s.line_text;
-    text_offsets = option_map (λ b. b.now) s.text_offsets;
-    address = option_map (λ b. b.now) s.address;
-    range_lists = option_map (λ b. b.now) s.range_lists;
-    location_lists = option_map (λ b. b.now) s.location_lists;
-    line = option_map (λ b. b.now) s.line;
-    ranges = option_map (λ b. b.now) s.ranges;
-    locations = option_map (λ b. b.now) s.locations;
-    frame = option_map (λ b. b.now) s.frame
-  }
+  order = s.order;
+  info = s.info.now;
+  «abbrev» = s.«abbrev».now;
+  text = option_map (λ b. b.now) s.text;
+  line_text = option_map (λ b. b.now) s.line_text;
+  text_offsets = option_map (λ b. b.now) s.text_offsets;
+  address = option_map (λ b. b.now) s.address;
+  range_lists = option_map (λ b. b.now) s.range_lists;
+  location_lists = option_map (λ b. b.now) s.location_lists;
+  line = option_map (λ b. b.now) s.line;
+  ranges = option_map (λ b. b.now) s.ranges;
+  locations = option_map (λ b. b.now) s.locations;
+  frame = option_map (λ b. b.now) s.frame;
+}
 
 -- the debugging sections of a file by their names (DWARF 5 appendix B): the first of each name. Absent
 -- .debug_info and .debug_abbrev are empty.
 unfoldable pub sections_of : ElfView → SectionsView
 sections_of elf = record {
-    order = elf.order;
-    info = unwrap_or (bytes_named (codes ".debug_info") elf.sections) [];
-    «abbrev» = unwrap_or (bytes_named (codes ".debug_abbrev") elf.sections) [];
-    text = bytes_named (codes ".debug_str") elf.sections;
-    line_text = bytes_named (codes ".debug_line_str") elf.sections;
-    text_offsets = bytes_named (codes ".debug_str_offsets") elf.sections;
-    address = bytes_named (codes ".debug_addr") elf.sections;
-    range_lists = bytes_named (codes ".debug_rnglists") elf.sections;
-    location_lists = bytes_named (codes ".debug_loclists") elf.sections;
-    line = bytes_named (codes ".debug_line") elf.sections;
-    ranges = bytes_named (codes ".debug_ranges") elf.sections;
-    locations = bytes_named (codes ".debug_loc") elf.sections;
-    frame = bytes_named (codes ".debug_frame") elf.sections
-  }
+  order = elf.order;
+  info = unwrap_or (bytes_named (codes ".debug_info") elf.sections) [];
+  «abbrev» = unwrap_or (bytes_named (codes ".debug_abbrev") elf.sections) [];
+  text = bytes_named (codes ".debug_str") elf.sections;
+  line_text = bytes_named (codes ".debug_line_str") elf.sections;
+  text_offsets = bytes_named (codes ".debug_str_offsets") elf.sections;
+  address = bytes_named (codes ".debug_addr") elf.sections;
+  range_lists = bytes_named (codes ".debug_rnglists") elf.sections;
+  location_lists = bytes_named (codes ".debug_loclists") elf.sections;
+  line = bytes_named (codes ".debug_line") elf.sections;
+  ranges = bytes_named (codes ".debug_ranges") elf.sections;
+  locations = bytes_named (codes ".debug_loc") elf.sections;
+  frame = bytes_named (codes ".debug_frame") elf.sections;
+}
 
 -- each section's bytes are few enough for 32-bit places
 pub record AreShort (s : SectionsView) : Type 0 where

@@ -1,11 +1,11 @@
 //! The sections with debugging data, by their names (DWARF 5 section 7.1 and appendix B).
 
-use crate::headed::Section;
-use crate::order::Order;
-
 ghost use Rattle.std.specs.Prelude.{◌≡◌, ◌<◌, ◌^◌, [], length, map, option_map, unwrap_or, IfSome};
 ghost use Rattle.elf_sections.specs.Rows.{bytes_named, AllShort};
 ghost use Rattle.elf_sections.specs.Shapes.{row, sections_view, sections_of, AreShort};
+
+use crate::headed::Section;
+use dw_fields::Order;
 
 /// The sections with debugging data. An absent `.debug_info` or `.debug_abbrev` is empty; each other
 /// absent section is `None`. A section that is present and has no bytes is there, and empty.

@@ -2,13 +2,11 @@
 #![tactic(auto)]
 
 mod debug;
-mod order;
-mod refusals;
 mod headed;
+mod refusals;
 mod section_list;
 
 pub use debug::Sections;
-pub use order::Order;
-pub use refusals::{ElfRefusal, OpenRefusal};
 pub use headed::Section;
+pub use refusals::{ElfRefusal, OpenRefusal};
 pub use section_list::Elf;

@@ -1,13 +1,13 @@
 //! The list of a file's sections.
 
-use crate::debug::{Sections, debug_sections_among, first_named};
-use crate::headed::Section;
-use crate::order::Order;
-use std::marker::Model;
-
 ghost use Rattle.std.specs.Prelude.{◌≡◌, ◌<◌, ◌^◌, length, map, option_map, IfSome};
 ghost use Rattle.elf_sections.specs.Rows.{bytes_named};
 ghost use Rattle.elf_sections.specs.Shapes.{row, sections_view, sections_of, AreShort};
+
+use crate::debug::{Sections, debug_sections_among, first_named};
+use crate::headed::Section;
+use dw_fields::Order;
+use std::marker::Model;
 
 /// The sections of an ELF file in table order, section 0 included.
 #[derive(Drop)]

@@ -1,0 +1,2 @@
+-- Lemmas on the loops of this crate.
+pub mod Pieces

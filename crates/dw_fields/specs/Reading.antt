@@ -1,5 +1,5 @@
 -- The fields of a section as functions of its bytes: the value and the place behind it, or the fault.
-use Rattle.std.specs.Prelude.{◌≡◌, ℕ, ◌+◌, ◌-◌, ◌^◌, ◌≤◌, ◌==◌, ◌⊎◌, nat_lt, nat_le, Bool, true, false, cond, if◌then◌else◌, List, length, take, drop, position, Option, Some, None, Result, Ok, Err, ℤ}
+use Rattle.std.specs.Prelude.{All, ◌≡◌, ℕ, ◌+◌, ◌-◌, ◌≤◌, ◌==◌, ◌⊎◌, nat_lt, nat_le, Bool, true, false, cond, if◌then◌else◌, List, take, drop, position, Option, Some, None, Result, Ok, Err, ℤ}
 use Rattle.byteorder.specs.Endian.{little_number, big_number}
 use Rattle.dw_fields.specs.declared.byte_order.Order.{Order}
 use Rattle.dw_fields.specs.declared.byte_order.Order.TheVariants.{Little, Big}
@@ -8,8 +8,8 @@ use Rattle.dw_fields.specs.declared.fault_code.Code.TheVariants.{Truncated, Leng
 use Rattle.dw_fields.specs.declared.fault_code.Fault.{Fault}
 use Rattle.dw_fields.specs.declared.cursor.Length.{Length}
 use Rattle.dw_fields.specs.Codes.{fault, renamed_fault}
-use Rattle.dw_fields.specs.Span.{Span, at, until, rest_of}
-use Rattle.dw_fields.specs.Leb.{leb_sum, signed_leb_sum, within_signed}
+use Rattle.dw_fields.specs.Span.{Span, at, rest_of}
+use Rattle.dw_fields.specs.Leb.{last_group, signed_of, unsigned_of}
 
 -- what stands at a place: the value and the place behind it, or the fault
 abbrev pub Reader : Type 0 → Type 0
@@ -90,29 +90,32 @@ length_at s = do
         Ok (record { wide = true; value = long.0 }, long.1))
       else Err (fault LengthReserved s.place)))
 
--- how many bytes before the end have a set top bit, up to the first that hasn't
-abbrev pub last_group : List ℕ → Option ℕ
-last_group bytes = position (λ b. nat_lt b 128) bytes
+-- The number of so many bytes, or that 64 bits don't hold it.
+abbrev pub leb_of : {X : Type 0} → Span → ℕ → Option X → Result (X × ℕ) Fault
+leb_of s size None = Err (fault LebTooLarge s.place)
+leb_of s size (Some x) = Ok (x, s.place + size)
 
--- The unsigned number that the bytes up to the first clear top bit spell: it passes the end where
--- there is no such byte, and goes before a value outside 64 bits.
+-- The number that the bytes up to the first clear top bit spell. Where there is no such byte the
+-- number passes the end, and this goes before a value outside 64 bits.
+abbrev pub leb_upto : {X : Type 0} → (List ℕ → Option X) → Span → Option ℕ → Result (X × ℕ) Fault
+leb_upto value s None = Err (fault Truncated s.place)
+leb_upto value s (Some n) = leb_of s (n + 1) (value (take (n + 1) (rest_of s)))
+
+-- an unsigned number (DWARF 5 section 7.6)
 unfoldable pub uleb_at : Reader ℕ
-uleb_at s = elim (last_group (rest_of s)) [
-  | None ↦ Err (fault Truncated s.place)
-  | Some n ↦ (if nat_lt (leb_sum (take (n + 1) (rest_of s))) (2 ^ 64)
-      then Ok (leb_sum (take (n + 1) (rest_of s)), s.place + (n + 1))
-      else Err (fault LebTooLarge s.place))
-]
+uleb_at s = leb_upto unsigned_of s (last_group (rest_of s))
 
--- the same for a signed number
+-- a signed number
 unfoldable pub sleb_at : Reader ℤ
-sleb_at s = elim (last_group (rest_of s)) [
-  | None ↦ Err (fault Truncated s.place)
-  | Some n ↦ (elim (within_signed (signed_leb_sum (take (n + 1) (rest_of s)))) [
-    | None ↦ Err (fault LebTooLarge s.place)
-    | Some z ↦ Ok (z, s.place + (n + 1))
-  ])
-]
+sleb_at s = leb_upto signed_of s (last_group (rest_of s))
+
+-- A LEB128 number by what its bytes mean: an answer is what the bytes up to the new place spell, and
+-- fits; no answer means that the number doesn't end, or that what its bytes spell doesn't fit.
+abbrev pub Spells : {X : Type 0} → (List ℕ → X → Type 0) → (X → Type 0) → Result X Fault → Span → Span → Type 0
+Spells means fits (Ok x) old new = means (take (new.place - old.place) (rest_of old)) x × fits x
+Spells {X = X} means fits (Err f) old new =
+    ((f ≡ fault Truncated old.place) × All (λ b. 128 ≤ b) (rest_of old))
+    ⊎ ((f ≡ fault LebTooLarge old.place) × (n : ℕ) × (x : X) × means (take n (rest_of old)) x × (fits x → ⊥))
 
 -- the bytes before the next zero byte, which is passed too
 unfoldable pub text_at : Reader (List ℕ)

@@ -1,5 +1,5 @@
 -- A reader with a state, again and again up to the end.
-use Rattle.std.specs.Prelude.{◌≡◌, ◌<◌, ◌≤◌, ℕ, zero, suc, nat_le, if◌then◌else◌, List, [], ◌∷◌, ◌++◌, Result, Ok, Err, refl}
+use Rattle.std.specs.Prelude.{◌≡◌, ◌<◌, ◌≤◌, ℕ, zero, suc, nat_le, if◌then◌else◌, List, [], ◌++◌, Result, Ok, Err, refl}
 use Rattle.std.proofs.Common.{append_assoc, append-nil, ap, ◌∙◌, sym, le-leb}
 use Rattle.std.proofs.lemmas.Bool.{lt-leb}
 use Rattle.dw_fields.specs.declared.fault_code.Fault.{Fault}

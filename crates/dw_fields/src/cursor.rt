@@ -1,11 +1,13 @@
 //! A part of a section with a place in it, and the fields that can stand there.
 
-ghost use Rattle.std.specs.Prelude.{◌≡◌, ◌+◌, ◌<◌, ◌≤◌, ◌^◌, ◌==◌, false, length, position, OnOk, IfOk, IfSome, if◌then◌else◌};
+ghost use Rattle.std.specs.Prelude.{◌≡◌, ◌+◌, ◌*◌, ◌<◌, ◌≤◌, ◌^◌, ◌==◌, false, length, position, All, OnOk, IfOk, IfSome, if◌then◌else◌};
 ghost use Rattle.dw_fields.specs.Span.{rest_of, until};
-ghost use Rattle.dw_fields.specs.Reading.{Gives, Moves, bytes_at, number_at, offset_at, length_at, text_at};
+ghost use Rattle.dw_fields.specs.Leb.{FitsSigned64, FitsUnsigned64, Leb, SignedLeb};
+ghost use Rattle.dw_fields.specs.Reading.{Gives, IsAddressSize, Moves, Spells, bytes_at, length_at, number_at, offset_at, sleb_at, text_at, uleb_at};
 
 use crate::byte_order::Order;
 use crate::fault_code::{Code, Fault};
+use crate::leb128::{last_group, signed_value, unsigned_value};
 use byteorder::{BigEndian, ByteOrder, LittleEndian};
 use std::marker::Model;
 
@@ -170,6 +172,24 @@ impl<'a> Cut<'a> {
         })
     }
 
+    /// A number of 3 bytes.
+    ///
+    /// # Errors
+    /// `Truncated` at the place where fewer bytes are left.
+    #[inline]
+    #[tactic(auto, unfolding(crate::specs::Reading::number_at))]
+    pub fn u24(&mut self) -> Result<u32, Fault>
+        ensures field { Gives (λ x. x) result (number_at 3) self.old self.new }
+        ensures moves { OnOk result (Moves 3 self.old self.new) }
+    {
+        let order = self.order;
+        let field = self.bytes(3)?;
+        Ok(match order {
+            Order::Little => LittleEndian::read_u24(field),
+            Order::Big => BigEndian::read_u24(field),
+        })
+    }
+
     /// A number of 4 bytes.
     ///
     /// # Errors
@@ -204,6 +224,49 @@ impl<'a> Cut<'a> {
             Order::Little => LittleEndian::read_u64(field),
             Order::Big => BigEndian::read_u64(field),
         })
+    }
+
+    /// A number of 16 bytes.
+    ///
+    /// # Errors
+    /// `Truncated` at the place where fewer bytes are left.
+    #[inline]
+    #[tactic(auto, unfolding(crate::specs::Reading::number_at))]
+    pub fn u128(&mut self) -> Result<u128, Fault>
+        ensures field { Gives (λ x. x) result (number_at 16) self.old self.new }
+        ensures moves { OnOk result (Moves 16 self.old self.new) }
+    {
+        let order = self.order;
+        let field = self.bytes(16)?;
+        Ok(match order {
+            Order::Little => LittleEndian::read_u128(field),
+            Order::Big => BigEndian::read_u128(field),
+        })
+    }
+
+    /// An address of `size` bytes.
+    ///
+    /// # Errors
+    /// `Truncated` at the place where fewer bytes are left.
+    #[inline]
+    pub fn address(&mut self, size: u8) -> Result<u64, Fault>
+        requires { IsAddressSize size }
+        ensures field { Gives (λ x. x) result (number_at size) self.old self.new }
+        ensures moves { OnOk result (Moves size self.old self.new) }
+        ensures fits { IfOk result (λ x. x < 2 ^ (8 * size)) }
+    {
+        match size {
+            2 => match self.u16() {
+                Ok(address) => Ok(u64::from(address)),
+                Err(fault) => Err(fault),
+            },
+            4 => match self.u32() {
+                Ok(address) => Ok(u64::from(address)),
+                Err(fault) => Err(fault),
+            },
+            8 => self.u64(),
+            _ => unreachable!(),
+        }
     }
 
     /// An offset: 8 bytes in the 64-bit format (`wide`), else 4.
@@ -280,6 +343,88 @@ impl<'a> Cut<'a> {
             }
             None => Err(Fault {
                 code: Code::TextUnended,
+                place: self.place,
+            }),
+        }
+    }
+
+    /// An unsigned LEB128 number; padding is accepted.
+    ///
+    /// # Errors
+    /// At the number's first byte: `Truncated` where no byte with a clear top bit stands before the
+    /// end, else `LebTooLarge` where the value is outside `u64`.
+    #[inline]
+    #[tactic(auto, using(crate::proofs::LebLaws::spells_unsigned))]
+    pub fn uleb(&mut self) -> Result<u64, Fault>
+        ensures field { Gives (λ x. x) result uleb_at self.old self.new }
+        ensures moves { OnOk result (Moves 1 self.old self.new) }
+        ensures spells { Spells Leb FitsUnsigned64 result self.old self.new }
+    {
+        self.unsigned()
+    }
+
+    /// A signed LEB128 number; padding is accepted.
+    ///
+    /// # Errors
+    /// At the number's first byte: `Truncated` where no byte with a clear top bit stands before the
+    /// end, else `LebTooLarge` where the value is outside `i64`.
+    #[inline]
+    #[tactic(auto, using(crate::proofs::LebLaws::spells_signed))]
+    pub fn sleb(&mut self) -> Result<i64, Fault>
+        ensures field { Gives (λ x. x) result sleb_at self.old self.new }
+        ensures moves { OnOk result (Moves 1 self.old self.new) }
+        ensures spells { Spells SignedLeb FitsSigned64 result self.old self.new }
+    {
+        self.signed()
+    }
+
+    #[inline]
+    #[tactic(auto, unfolding(crate::specs::Reading::uleb_at))]
+    fn unsigned(&mut self) -> Result<u64, Fault>
+        ensures field { Gives (λ x. x) result uleb_at self.old self.new }
+        ensures moves { OnOk result (Moves 1 self.old self.new) }
+        ensures fits { All (λ b. b < 256) (rest_of self.old) }
+    {
+        let rest = self.rest();
+        match last_group(rest) {
+            Some(last) => match unsigned_value(&rest[..last + 1]) {
+                Some(value) => {
+                    self.place += last as u64 + 1;
+                    Ok(value)
+                }
+                None => Err(Fault {
+                    code: Code::LebTooLarge,
+                    place: self.place,
+                }),
+            },
+            None => Err(Fault {
+                code: Code::Truncated,
+                place: self.place,
+            }),
+        }
+    }
+
+    #[inline]
+    #[tactic(auto, unfolding(crate::specs::Reading::sleb_at))]
+    fn signed(&mut self) -> Result<i64, Fault>
+        ensures field { Gives (λ x. x) result sleb_at self.old self.new }
+        ensures moves { OnOk result (Moves 1 self.old self.new) }
+        ensures fits { All (λ b. b < 256) (rest_of self.old) }
+    {
+        let rest = self.rest();
+        match last_group(rest) {
+            Some(last) => match signed_value(&rest[..last + 1]) {
+                Some(value) => {
+                    self.place += last as u64 + 1;
+                    Ok(value)
+                }
+                None => Err(Fault {
+                    code: Code::LebTooLarge,
+                    place: self.place,
+                }),
+            },
+            None => Err(Fault {
+                code: Code::Truncated,
                 place: self.place,
             }),
         }

@@ -10,6 +10,7 @@
 mod byte_order;
 mod cursor;
 mod fault_code;
+mod leb128;
 
 pub use byte_order::Order;
 pub use cursor::{Cut, Length};

@@ -1,0 +1,2 @@
+pub mod LebSums
+pub mod LebLaws

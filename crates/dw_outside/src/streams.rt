@@ -5,32 +5,42 @@ ghost use Rattle.std.specs.Io.{ReadsAtMost};
 use super::stops::{ReadStop, WriteStop};
 use super::traits::{Sink, Source};
 use std::io::{Read, Seek, SeekFrom};
+use std::marker::Model;
 use std::rt::Files;
 use std::{fs, io};
 
 /// The files of the machine, by their paths.
 ///
 /// It opens the file at each read, so that it keeps nothing of it and takes no memory: read in
-/// large pieces. A folder, or a file that can't be opened, is a fault.
+/// large pieces. A folder, or a file that can't be opened, is a fault. Contracts see its count of
+/// faults alone.
 #[derive(Drop)]
 pub struct FileSource<R> {
     rt: R,
     faults: u64,
 }
 
-impl<R: Files + Drop> FileSource<R> {
+impl<R> Model for FileSource<R> {
+    ghost use Rattle.std.specs.Prelude.{ℕ};
+
+    ghost Value = { ℕ };
+
+    ghost view = { λ s. s.faults };
+}
+
+impl<R: Files> FileSource<R> {
     /// A source that reads by way of this runtime.
     pub fn new(rt: R) -> Self
-        ensures { result.faults ≡ 0 }
+        ensures { result ≡ 0 }
     {
         FileSource { rt, faults: 0 }
     }
 }
 
-impl<R: Files + Drop> Source for FileSource<R> {
+impl<R: Files> Source for FileSource<R> {
     ghost holds = { λ _ _. None };
 
-    ghost faults = { λ s. s.faults };
+    ghost faults = { λ s. s };
 
     fn read(&mut self, name: &str, into: &mut [u8], from: u64) -> Result<usize, ReadStop> {
         match read_at(&self.rt, name, into, from) {
@@ -55,17 +65,25 @@ fn read_at<R: Files>(rt: &R, name: &str, into: &mut [u8], from: u64) -> io::Resu
     file.read(into)
 }
 
-/// A stream of bytes, such as standard output.
+/// A stream of bytes, such as standard output. Contracts see its count of faults alone.
 #[derive(Drop)]
 pub struct StreamSink<W> {
     writer: W,
     faults: u64,
 }
 
+impl<W> Model for StreamSink<W> {
+    ghost use Rattle.std.specs.Prelude.{ℕ};
+
+    ghost Value = { ℕ };
+
+    ghost view = { λ s. s.faults };
+}
+
 impl<W: io::Write + Drop> StreamSink<W> {
     /// A sink that writes to this stream.
     pub fn new(writer: W) -> Self
-        ensures { result.faults ≡ 0 }
+        ensures { result ≡ 0 }
     {
         StreamSink { writer, faults: 0 }
     }
@@ -74,7 +92,7 @@ impl<W: io::Write + Drop> StreamSink<W> {
 impl<W: io::Write + Drop> Sink for StreamSink<W> {
     ghost held = { λ _. None };
 
-    ghost faults = { λ s. s.faults };
+    ghost faults = { λ s. s };
 
     fn write(&mut self, bytes: &[u8]) -> Result<usize, WriteStop> {
         match self.writer.write(bytes) {

@@ -1,2 +1,7 @@
+pub mod Headers
+pub mod Laws
+pub mod Layouts
+pub mod Names
+pub mod Refusals
 pub mod Rows
 pub mod Shapes

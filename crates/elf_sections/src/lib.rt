@@ -3,8 +3,14 @@
 
 mod debug;
 mod headed;
+mod header;
+mod layout;
+mod names;
+mod numbers;
+mod reading;
 mod refusals;
 mod section_list;
+mod table;
 
 pub use debug::Sections;
 pub use headed::Section;

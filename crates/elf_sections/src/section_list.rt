@@ -1,12 +1,19 @@
 //! The list of a file's sections.
 
-ghost use Rattle.std.specs.Prelude.{◌≡◌, ◌<◌, ◌^◌, length, map, option_map, IfSome};
-ghost use Rattle.elf_sections.specs.Rows.{bytes_named};
+ghost use Rattle.std.specs.Prelude.{◌≡◌, ◌+◌, ◌<◌, ◌^◌, List, ℕ, length, take, map, option_map, IfSome, IfOk};
+ghost use Rattle.elf_sections.specs.Refusals.{Opens};
+ghost use Rattle.elf_sections.specs.Names.{elf_of};
+ghost use Rattle.elf_sections.specs.Rows.{bytes_named, AllShort};
 ghost use Rattle.elf_sections.specs.Shapes.{row, sections_view, sections_of, AreShort};
 
 use crate::debug::{Sections, debug_sections_among, first_named};
 use crate::headed::Section;
+use crate::layout::read_layout;
+use crate::reading::read_sections;
+use crate::refusals::OpenRefusal;
+use crate::table::read_table;
 use dw_fields::Order;
+use std::alloc::Global;
 use std::marker::Model;
 
 /// The sections of an ELF file in table order, section 0 included.
@@ -29,6 +36,41 @@ impl<'f> Model for Elf<'f> {
 }
 
 impl<'f> Elf<'f> {
+    /// Reads the section table of a file.
+    ///
+    /// # Errors
+    /// `Refused` with the first refusal of the file: first of its length and its header, then of the
+    /// table, then of each section's bounds, of each section's name and of each section's compression.
+    /// `OutOfMemory` where there is no memory for the list.
+    #[tactic(auto, using(crate::specs::Laws::elf_of_whole), unfolding(crate::specs::Names::elf_of))]
+    pub fn read(alloc: Global, file: &'f [u8]) -> Result<Elf<'f>, OpenRefusal>
+        ensures table { Opens (λ e. e) result (elf_of file.entry.now) }
+        ensures short { IfOk result (λ e. AllShort e.sections) }
+        ensures front { (whole : List ℕ) → file.entry.now ≡ take (2 ^ 30 + 1) whole → elf_of file.entry.now ≡ elf_of whole }
+    {
+        let layout = match read_layout(file) {
+            Ok(layout) => layout,
+            Err(refusal) => return Err(OpenRefusal::Refused(refusal)),
+        };
+        let table = match read_table(file, layout) {
+            Ok(table) => table,
+            Err(refusal) => return Err(OpenRefusal::Refused(refusal)),
+        };
+        if table.count == 0 {
+            return Ok(Elf {
+                order: layout.order,
+                sections: Vec::new(alloc),
+            });
+        }
+        match read_sections(alloc, file, layout, table) {
+            Ok(sections) => Ok(Elf {
+                order: layout.order,
+                sections,
+            }),
+            Err(refusal) => Err(refusal),
+        }
+    }
+
     /// The sections in table order.
     pub fn sections(&self) -> &[Section<'f>]
         ensures { map row result.now ≡ self.now.sections }

@@ -1,0 +1,36 @@
+-- One section header more, with its name or without.
+use Rattle.std.proofs.Common.{◌≡◌, ◌+◌, ◌-◌, ◌<◌, ◌≤◌, ℕ, Bool, true, false, List, [], ◌∷◌, ◌++◌, map, Option, Some, None, Result, Ok, Err, refl, ap, sym, ◌∙◌, arith}
+use Rattle.std.specs.List.{range_with_len}
+use Rattle.std.proofs.lemmas.List.{map_push}
+use Rattle.std.proofs.lemmas.List.FromFn.{map-range_with_len_more}
+use Rattle.elf_sections.specs.declared.header.Header.{Header}
+use Rattle.elf_sections.specs.declared.layout.Layout.{Layout}
+use Rattle.elf_sections.specs.declared.table.Table.{Table}
+use Rattle.elf_sections.specs.declared.refusals.ElfRefusal.TheVariants.{NameOutside}
+use Rattle.elf_sections.specs.Refusals.{first_in}
+use Rattle.elf_sections.specs.Headers.{headers_of}
+use Rattle.elf_sections.specs.Names.{contents_of, name_of, has_no_name, row_of, named_rows}
+use Rattle.elf_sections.specs.Rows.{Row}
+
+pub no_name_here : (names : Option (List ℕ)) (h k : Header) → h ≡ k → None ≡ name_of names h → has_no_name names k ≡ true
+no_name_here names h k e absent = rw (← e, ← absent) refl
+
+pub name_here : (names : Option (List ℕ)) (h k : Header) (name : List ℕ) → h ≡ k → Some name ≡ name_of names h → has_no_name names k ≡ false
+name_here names h k name e there = rw (← e, ← there) refl
+
+pub row_here : (file : List ℕ) (names : Option (List ℕ)) (h k : Header) (name bytes : List ℕ) → h ≡ k → Some name ≡ name_of names h → bytes ≡ contents_of file h
+    → record { name = name; kind = h.kind; flags = h.flags; size = h.size; bytes = bytes } ≡ row_of file names k
+row_here file names h k name bytes e there held = rw (held, ← e, ← there) refl
+
+pub name_refused : (layout : Layout) (table : Table) (file : List ℕ) (names : Option (List ℕ)) (number : ℕ)
+    → first_in (has_no_name names) 1 (headers_of layout table file) ≡ Some number
+    → named_rows layout table file names ≡ Err (NameOutside number)
+unfolding named_rows
+name_refused layout table file names number e = rw e refl
+
+pub rows_more : (view : Header → Row) (header : ℕ → Header) (first : Row) (i : ℕ) (rows more : List Row) (last : Row)
+    → 1 ≤ i → rows ≡ first ∷ map view (map header (range_with_len 1 (i - 1))) → more ≡ rows ++ last ∷ [] → last ≡ view (header i)
+    → more ≡ first ∷ map view (map header (range_with_len 1 (i + 1 - 1)))
+rows_more view header first i rows more last some e added is =
+    let n : i + 1 - 1 ≡ i - 1 + 1 = omega arith in
+    rw (n, added, e, is, map-range_with_len_more header 1 (i - 1) i (omega arith), map_push view (map header (range_with_len 1 (i - 1))) (header i)) refl

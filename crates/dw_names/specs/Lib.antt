@@ -1,0 +1,5 @@
+pub mod Named
+pub mod Tags
+pub mod Attributes
+pub mod Forms
+pub mod Texts

@@ -1,0 +1,15 @@
+//! Names of tags, attributes and forms (DWARF 5 sections 7.5.3, 7.5.4 and 7.5.6), without the standard's prefixes.
+//!
+//! Each table is one definition, and its call gives the name beside a number exactly. The appending calls print a number
+//! without a name as `0x` and its hexadecimal digits.
+#![tactic(auto)]
+
+mod attributes;
+mod forms;
+mod tags;
+mod texts;
+
+pub use attributes::attribute_name;
+pub use forms::form_name;
+pub use tags::tag_name;
+pub use texts::{push_attribute_after, push_form_after, push_tag_after};

@@ -7,6 +7,8 @@
 mod attributes;
 mod forms;
 mod tags;
+#[cfg(test)]
+mod tests;
 mod texts;
 
 pub use attributes::attribute_name;

@@ -10,6 +10,8 @@ mod digits;
 mod escapes;
 mod glyphs;
 mod numbers;
+#[cfg(test)]
+mod tests;
 mod words;
 
 pub use bytes::{push_hex_bytes, push_hex_bytes_after};

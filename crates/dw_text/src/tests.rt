@@ -1,0 +1,59 @@
+//! Each call once, with texts that were written by hand.
+use super::*;
+use std::test::Fail;
+
+#[test]
+fn numbers_as_texts(rt: HostRuntime) -> Result<(), Fail> {
+    let mut out = Vec::new(rt.alloc());
+    push_decimal(&mut out, 0)?;
+    push_decimal_after(&mut out, b" ", 18446744073709551615)?;
+    push_hex_after(&mut out, b" 0x", 0)?;
+    push_hex_after(&mut out, b" 0x", 0x10af)?;
+    push_hex_after(&mut out, b" 0x", 18446744073709551615)?;
+    assert_eq!(rt;
+        out.as_slice(),
+        b"0 18446744073709551615 0x0 0x10af 0xffffffffffffffff".as_slice()
+    );
+    out.clear();
+    push_hex(&mut out, 9)?;
+    push_sixteen_after(&mut out, b" 0x", 0)?;
+    push_sixteen_after(&mut out, b" 0x", 0x123456789abcdef0)?;
+    push_text(&mut out, b" ")?;
+    push_sixteen(&mut out, 0xff)?;
+    assert_eq!(rt;
+        out.as_slice(),
+        b"9 0x0000000000000000 0x123456789abcdef0 00000000000000ff".as_slice()
+    );
+    out.clear();
+    push_signed(&mut out, 0)?;
+    push_signed_after(&mut out, b" ", -1)?;
+    push_signed_after(&mut out, b" ", -9223372036854775808)?;
+    push_signed_after(&mut out, b" ", 9223372036854775807)?;
+    assert_eq!(rt;
+        out.as_slice(),
+        b"0 -1 -9223372036854775808 9223372036854775807".as_slice()
+    );
+    Ok(())
+}
+
+#[test]
+fn escapes_and_bytes(rt: HostRuntime) -> Result<(), Fail> {
+    let mut out = Vec::new(rt.alloc());
+    push_escaped_after(&mut out, b"text ", b"a \"b\\~\x7f\x1f\n\xff")?;
+    push_escaped(&mut out, b"")?;
+    push_text_after(&mut out, b"|", b"\"")?;
+    assert_eq!(rt;
+        out.as_slice(),
+        b"text a \\\"b\\\\~\\x7f\\x1f\\x0a\\xff|\"".as_slice()
+    );
+    out.clear();
+    let bytes = [0xab; 33];
+    push_hex_bytes_after(&mut out, b"x ", &bytes)?;
+    push_hex_bytes(&mut out, b"\x00\x9f")?;
+    push_hex_bytes(&mut out, b"")?;
+    assert_eq!(rt;
+        out.as_slice(),
+        b"x ababababababababababababababababababababababababababababababababab009f".as_slice()
+    );
+    Ok(())
+}

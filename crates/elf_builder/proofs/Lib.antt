@@ -1,0 +1,2 @@
+-- Lemmas on how sections are laid out.
+pub mod Steps

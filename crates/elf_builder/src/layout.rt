@@ -1,0 +1,109 @@
+//! Where the parts of the file stand.
+ghost use Rattle.std.specs.Prelude.{◌≡◌, ◌++◌, ◌∷◌, ◌<◌, ◌^◌, ◌+◌, [], length, map, vec_len, IfOk, OnOk};
+ghost use Rattle.elf_builder.specs.Given.{given};
+ghost use Rattle.elf_builder.specs.Fields.{field};
+ghost use Rattle.elf_builder.specs.Headers.{section_header, file_header};
+ghost use Rattle.elf_builder.specs.File.{elf_file_of, contents_of, given_names, given_headers, own_name, no_header};
+
+use super::headers::{push_file_header, push_section_header};
+use super::sections::GivenSection;
+use std::alloc::{AllocError, Global};
+
+/// How many bytes the file's header has.
+const HEADER_SIZE: u64 = 64;
+
+/// The given sections, laid out one behind the other.
+#[derive(Drop)]
+struct Layout {
+    /// Their bytes.
+    contents: Vec<u8>,
+    /// A zero byte, and each name with a zero byte.
+    names: Vec<u8>,
+    /// Their section headers.
+    headers: Vec<u8>,
+}
+
+/// The file that holds the sections.
+#[tactic(auto, unfolding(crate::specs::File::elf_file_of))]
+pub(super) fn whole_file(alloc: Global, sections: &[GivenSection]) -> Result<Vec<u8>, AllocError>
+    ensures { IfOk result (λ file. file.items ≡ elf_file_of (map given sections.now)) }
+{
+    let Layout {
+        contents,
+        names,
+        headers,
+    } = laid_out(alloc, sections)?;
+    let own_name = names.len() as u64;
+    let names_place = HEADER_SIZE + contents.len() as u64;
+    let mut names = names;
+    push_own_name(&mut names)?;
+    let mut parts = contents;
+    parts.extend_from_slice(names.as_slice())?;
+    let mut file = Vec::new(alloc);
+    push_file_header(
+        &mut file,
+        HEADER_SIZE + parts.len() as u64,
+        sections.len() as u64,
+    )?;
+    file.extend_from_slice(parts.as_slice())?;
+    push_no_header(&mut file)?;
+    file.extend_from_slice(headers.as_slice())?;
+    push_section_header(&mut file, own_name, 3, names_place, names.len() as u64)?;
+    Ok(file)
+}
+
+/// Appends the name of the section of the names.
+#[tactic(auto, unfolding(crate::specs::File::own_name))]
+fn push_own_name(names: &mut Vec<u8>) -> Result<(), AllocError>
+    ensures { OnOk result (names.new.items ≡ names.old.items ++ own_name) }
+{
+    names.extend_from_slice(b".shstrtab\0")
+}
+
+/// Appends the header of section 0.
+#[tactic(auto, unfolding(crate::specs::File::no_header))]
+fn push_no_header(file: &mut Vec<u8>) -> Result<(), AllocError>
+    ensures { OnOk result (file.new.items ≡ file.old.items ++ no_header) }
+{
+    file.extend_from_slice(&[0; 64])
+}
+
+/// Lays out the given sections in their order.
+fn laid_out(alloc: Global, sections: &[GivenSection]) -> Result<Layout, AllocError>
+    ensures contents { IfOk result (λ l. l.contents.items ≡ contents_of (map given sections.now)) }
+    ensures names { IfOk result (λ l. l.names.items ≡ given_names (map given sections.now)) }
+    ensures headers { IfOk result (λ l. l.headers.items ≡ given_headers 1 64 (map given sections.now)) }
+{
+    let mut layout = Layout {
+        contents: Vec::new(alloc),
+        names: Vec::from_slice(alloc, &[0])?,
+        headers: Vec::new(alloc),
+    };
+    for section in sections {
+        match lay_out(&mut layout, section) {
+            Ok(()) => {}
+            Err(error) => return Err(error),
+        }
+    }
+    Ok(layout)
+}
+
+/// Puts one more section behind the others.
+fn lay_out(layout: &mut Layout, section: &GivenSection) -> Result<(), AllocError>
+    ensures headers { OnOk result (layout.new.headers.items ≡ layout.old.headers.items ++ section_header (length layout.old.names.items) 1 (64 + length layout.old.contents.items) (length section.now.bytes.items)) }
+    ensures contents { OnOk result (layout.new.contents.items ≡ layout.old.contents.items ++ section.now.bytes.items) }
+    ensures names { OnOk result (layout.new.names.items ≡ (layout.old.names.items ++ section.now.name.items) ++ 0 ∷ []) }
+{
+    let place = HEADER_SIZE + layout.contents.len() as u64;
+    push_section_header(
+        &mut layout.headers,
+        layout.names.len() as u64,
+        1,
+        place,
+        section.bytes.len() as u64,
+    )?;
+    layout.contents.extend_from_slice(section.bytes.as_slice())?;
+    layout.names.extend_from_slice(section.name.as_slice())?;
+    layout.names.push(0)?;
+    Ok(())
+}

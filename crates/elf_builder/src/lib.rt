@@ -1,0 +1,15 @@
+//! Builds ELF files of one fixed shape, out of named sections: little-endian ELF64 with nothing but
+//! the given sections and the table of their names (gABI, chapter 4). Tests and generators make
+//! their files with it.
+//!
+//! [`ElfBuilder`] promises the whole file, byte by byte, as its definition spells it field by
+//! field.
+#![tactic(auto)]
+
+mod builder;
+mod fields;
+mod headers;
+mod layout;
+mod sections;
+
+pub use builder::ElfBuilder;

@@ -1,5 +1,5 @@
 -- The fields of a section as functions of its bytes: the value and the place behind it, or the fault.
-use Rattle.std.specs.Prelude.{All, ◌≡◌, ℕ, ◌+◌, ◌-◌, ◌≤◌, ◌==◌, ◌⊎◌, nat_lt, nat_le, Bool, true, false, cond, if◌then◌else◌, List, take, drop, position, Option, Some, None, Result, Ok, Err, ℤ}
+use Rattle.std.specs.Prelude.{◌||◌, All, ◌≡◌, ℕ, ◌+◌, ◌-◌, ◌≤◌, ◌==◌, ◌⊎◌, nat_lt, nat_le, Bool, true, false, cond, if◌then◌else◌, List, take, drop, position, Option, Some, None, Result, Ok, Err, ℤ}
 use Rattle.byteorder.specs.Endian.{little_number, big_number}
 use Rattle.dw_fields.specs.declared.byte_order.Order.{Order}
 use Rattle.dw_fields.specs.declared.byte_order.Order.TheVariants.{Little, Big}
@@ -57,6 +57,9 @@ pub record Moves (least : ℕ) (old new : Span) : Type 0 where
 -- an address has 2, 4 or 8 bytes
 abbrev pub IsAddressSize : ℕ → Type 0
 IsAddressSize size = (size ≡ 2) ⊎ (size ≡ 4) ⊎ (size ≡ 8)
+
+abbrev pub is_address_size : ℕ → Bool
+is_address_size size = size == 2 || (size == 4 || size == 8)
 
 -- The number of the first n bytes: the sum of each byte times 256 to the power of its place, which
 -- counts from the first byte (little) or from the last of the n (big).

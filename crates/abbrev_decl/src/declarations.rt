@@ -1,0 +1,214 @@
+//! Abbreviation declarations (DWARF 5, section 7.5.3).
+
+ghost use Rattle.std.specs.Prelude.{◌≡◌, ◌≤◌, ◌+◌, length};
+ghost use Rattle.abbrev_decl.specs.Counting.{ticked};
+ghost use Rattle.abbrev_decl.specs.Pairs.{IsRead, Takes, list_of, pairs_at};
+ghost use Rattle.abbrev_decl.specs.Declarations.{EndsInside, HeadInside, Stands, StandsAs, declaration_at, head_at};
+
+use crate::counter::Steps;
+use crate::pairs::{AttrSpec, read_pair, retold, skip_pairs, whole};
+use dw_fields::{Code, Fault};
+use std::marker::Model;
+
+/// The front of a declaration; `pairs` is the place of its first pair.
+#[derive(Clone, Copy, Debug, PartialEq, Eq)]
+struct Head {
+    code: u64,
+    tag: u64,
+    children: bool,
+    pairs: u64,
+}
+
+/// An abbreviation declaration, which stays in its section: its pairs are read when they are asked
+/// for.
+#[derive(Drop)]
+pub struct Decl<'f> {
+    section: &'f [u8],
+    code: u64,
+    tag: u64,
+    children: bool,
+    place: u64,
+    pairs: u64,
+}
+
+impl<'f> Model for Decl<'f> {
+    ghost use Rattle.std.specs.Prelude.{◌≤◌, length};
+    ghost use Rattle.abbrev_decl.specs.Shapes.{DeclView};
+    ghost use Rattle.abbrev_decl.specs.Pairs.{IsRead, list_of, pairs_at};
+
+    ghost Value = { DeclView };
+
+    ghost view = { λ d. record {
+      code = d.code;
+      tag = d.tag;
+      children = d.children;
+      place = d.place;
+      pairs = list_of (pairs_at d.section.now d.pairs);
+    } };
+
+    ghost invariant = { λ d. (d.pairs ≤ length d.section.now) × IsRead (pairs_at d.section.now d.pairs) };
+}
+
+impl<'f> Decl<'f> {
+    /// The code by which entries name the declaration; never 0.
+    pub fn code(&self) -> u64
+        ensures { result ≡ self.now.code }
+    {
+        self.code
+    }
+
+    /// The tag of the entries.
+    pub fn tag(&self) -> u64
+        ensures { result ≡ self.now.tag }
+    {
+        self.tag
+    }
+
+    /// Whether the entries have children.
+    pub fn children(&self) -> bool
+        ensures { result ≡ self.now.children }
+    {
+        self.children
+    }
+
+    /// Where the declaration begins in `.debug_abbrev`.
+    pub fn place(&self) -> u64
+        ensures { result ≡ self.now.place }
+    {
+        self.place
+    }
+
+    /// The pairs, from the first.
+    pub fn attrs(&self) -> Attrs<'f>
+        ensures { result ≡ self.now.pairs }
+    {
+        Attrs {
+            section: self.section,
+            place: self.pairs,
+        }
+    }
+}
+
+/// The pairs of a declaration that are left.
+#[derive(Drop)]
+pub struct Attrs<'f> {
+    section: &'f [u8],
+    place: u64,
+}
+
+impl<'f> Model for Attrs<'f> {
+    ghost use Rattle.std.specs.Prelude.{◌≤◌, List, length};
+    ghost use Rattle.abbrev_decl.specs.declared.pairs.AttrSpec.{AttrSpec};
+    ghost use Rattle.abbrev_decl.specs.Pairs.{IsRead, list_of, pairs_at};
+
+    ghost Value = { List AttrSpec };
+
+    ghost view = { λ a. list_of (pairs_at a.section.now a.place) };
+
+    ghost invariant = { λ a. (a.place ≤ length a.section.now) × IsRead (pairs_at a.section.now a.place) };
+}
+
+impl<'f> Attrs<'f> {
+    /// The next pair; `None` behind the last one.
+    pub fn next(&mut self) -> Option<AttrSpec>
+        ensures { Takes result self.old self.new }
+    {
+        let mut cut = whole(self.section, self.place);
+        match read_pair(&mut cut) {
+            Ok(Some(pair)) => {
+                self.place = cut.place();
+                Some(pair)
+            }
+            Ok(None) => None,
+            // The pairs of a declaration were read before.
+            Err(_) => None,
+        }
+    }
+}
+
+/// Reads the front of the declaration at `place`; `None` is a code 0.
+#[tactic(auto, unfolding(crate::specs::Declarations::head_at))]
+fn read_head(section: &[u8], place: u64) -> Result<Option<Head>, Fault>
+    requires { place ≤ length section.now }
+    ensures answer { result ≡ head_at section.now place }
+    ensures inside { HeadInside place (length section.now) result }
+{
+    let mut cut = whole(section, place);
+    let code = retold(cut.uleb())?;
+    if code == 0 {
+        return Ok(None);
+    }
+    let tag = retold(cut.uleb())?;
+    let byte = cut.place();
+    let children = retold(cut.u8())?;
+    if 1 < children {
+        return Err(Fault {
+            code: Code::ChildrenByte,
+            place: byte,
+        });
+    }
+    Ok(Some(Head {
+        code,
+        tag,
+        children: children == 1,
+        pairs: cut.place(),
+    }))
+}
+
+/// Reads the declaration at `place` in `.debug_abbrev` and the place behind it; `None` is the code
+/// 0 that ends a table. Counts one step, whatever the answer.
+///
+/// Refused with 31 at a field that passes the section's end, 32 at a LEB128 of more than 64 bits,
+/// and 33 at a children byte above 1: the first in the order of the fields.
+#[tactic(auto, unfolding(crate::specs::Declarations::declaration_at))]
+pub fn read_decl<'f, L>(
+    section: &'f [u8],
+    place: u64,
+    steps: &mut Steps<L>,
+) -> Result<Option<(Decl<'f>, u64)>, Fault>
+    requires { place ≤ length section.now }
+    ensures answer { result ≡ declaration_at section.entry.now place }
+    ensures inside { EndsInside place (length section.entry.now) result }
+    ensures counted { steps.new ≡ ticked steps.old }
+{
+    steps.tick();
+    let head = match read_head(section, place) {
+        Ok(Some(head)) => head,
+        Ok(None) => return Ok(None),
+        Err(fault) => return Err(fault),
+    };
+    let next = match skip_pairs(section, head.pairs) {
+        Ok(next) => next,
+        Err(fault) => return Err(fault),
+    };
+    Ok(Some((at_head(section, place, head), next)))
+}
+
+/// The declaration that begins with a front.
+fn at_head<'f>(section: &'f [u8], place: u64, head: Head) -> Decl<'f>
+    requires inside { head.pairs ≤ length section.now }
+    requires read { IsRead (pairs_at section.now head.pairs) }
+    ensures { result ≡ record { code = head.code; tag = head.tag; children = head.children; place = place; pairs = list_of (pairs_at section.entry.now head.pairs) } }
+{
+    Decl {
+        section,
+        code: head.code,
+        tag: head.tag,
+        children: head.children,
+        place,
+        pairs: head.pairs,
+    }
+}
+
+/// The declaration that is known to stand at `place`. Counts no step.
+#[tactic(auto, unfolding(crate::specs::Declarations::declaration_at))]
+pub fn decl_at<'f>(section: &'f [u8], place: u64) -> Decl<'f>
+    requires inside { place ≤ length section.now }
+    requires stands { Stands (declaration_at section.now place) }
+    ensures { StandsAs result (declaration_at section.entry.now place) }
+{
+    match read_head(section, place) {
+        Ok(Some(head)) => at_head(section, place, head),
+        _ => unreachable!(),
+    }
+}

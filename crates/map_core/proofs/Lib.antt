@@ -5,3 +5,10 @@ pub mod HistoryLemmas
 pub mod EventLemmas
 pub mod SoundLemmas
 pub mod CallLemmas
+pub mod PassLemmas
+pub mod TurnLemmas
+pub mod CountLemmas
+pub mod TellLemmas
+pub mod JoinLemmas
+pub mod StartLemmas
+pub mod AbsentLemmas

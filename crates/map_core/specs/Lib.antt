@@ -5,3 +5,5 @@ pub mod Places
 pub mod Machine
 pub mod Events
 pub mod Calls
+pub mod Passes
+pub mod Knowing

@@ -1,0 +1,336 @@
+-- Each step of a pass is a turn.
+use Rattle.std.proofs.Common.{◌≡◌, ◌≢◌, ◌⊎◌, ℕ, zero, suc, ◌+◌, ◌-◌, ◌*◌, ◌<◌, ◌≤◌, Bool, true, false, List, [], ◌∷◌, ◌++◌, length, Option, Some, None, ◌||◌, ◌&&◌, ◌==◌, if◌then◌else◌, refl, sym, ap, subst, ◌∙◌, inl, inr, ⊎_elim, arith, append_assoc, append-nil, eq-eqb, ne_eqb, length-append, true≢false}
+use mathlib.Core.Logic.{dite}
+use native.Mathlib.Decide.{ℕ_discrete}
+use Rattle.map_core.specs.declared.cell.Cell.{Cell}
+use Rattle.map_core.specs.declared.entry.Entry.{Entry}
+use Rattle.map_core.specs.declared.layout.Layout.{Layout}
+use Rattle.map_core.specs.declared.view.View.{View}
+use Rattle.map_core.specs.History.{value_in, is_in, by_any, StartsWith, StartsWithOwn}
+use Rattle.map_core.specs.Places.{lowest, key_place, value_place, IsCell}
+use Rattle.map_core.specs.Machine.{IsWord, Keeps, Only, State, IsUnset}
+use Rattle.map_core.specs.Events.{entry, Writes}
+use Rattle.map_core.specs.Passes.{look, cell, drop_claim, all_numbers, placed, AllBy, PassAt, Turn}
+use Rattle.map_core.specs.Knowing.{rest_of, sees, reads, grabs, places, counts_seen, tallies, settles}
+use Rattle.map_core.proofs.PlaceLemmas.{key_key, value_value, key_value, value_key}
+use Rattle.map_core.proofs.WordLemmas.{keeps_at}
+use Rattle.map_core.proofs.HistoryLemmas.{by_hit, by_append, test_cases}
+use Rattle.map_core.proofs.PassLemmas.{keeps_trans, own_whole, own_grows, in_first, there_below}
+
+pub look_hit : (known : List (ℕ × ℕ)) (q n x : ℕ) → q ≡ x → look ((q, n) ∷ known) x ≡ n
+look_hit known q n x is = subst (λ (b : Bool). (if b then n else look known x) ≡ n) (sym (eq-eqb q x is)) refl
+
+pub look_miss : (known : List (ℕ × ℕ)) (q n x : ℕ) → q ≢ x → look ((q, n) ∷ known) x ≡ look known x
+look_miss known q n x isnt = subst (λ (b : Bool). (if b then n else look known x) ≡ look known x) (sym (ne_eqb q x isnt)) refl
+
+-- one word more is seen
+pub knows_more : (known : List (ℕ × ℕ)) (C : ℕ → ℕ) (q n : ℕ) → C q ≡ n → Keeps (look known) C → Keeps (look ((q, n) ∷ known)) C
+knows_more known C q n is keeps x h =
+    dite (ℕ_discrete q x)
+    (λ e. sym (ap C e) ∙ (is ∙ sym (look_hit known q n x e)))
+    (λ ne. let m = look_miss known q n x ne in keeps x (subst (λ (y : ℕ). 0 < y) m h) ∙ sym m)
+
+-- what was seen stays seen
+pub seen_more : (known : List (ℕ × ℕ)) (C : ℕ → ℕ) (q n x : ℕ) → C q ≡ n → Keeps (look known) C → 0 < look known x → look ((q, n) ∷ known) x ≡ look known x
+seen_more known C q n x is keeps h =
+    dite (ℕ_discrete q x)
+    (λ e. look_hit known q n x e ∙ (sym is ∙ (ap C e ∙ keeps x h)))
+    (λ ne. look_miss known q n x ne)
+
+pub claim_cases : (o : Option Cell) (g i : ℕ) → (o ≡ Some (cell g i)) ⊎ (o ≢ Some (cell g i))
+claim_cases None g i = inr (λ e. absurd (cc))
+claim_cases (Some c) g i =
+    dite (ℕ_discrete c.generation g)
+    (λ eg. dite (ℕ_discrete c.index i)
+    (λ ei. inl (λ k. Some (cell (eg k) (ei k))))
+    (λ ne. inr (λ e. ne (ap (λ (o : Option Cell). elim o as (λ _. ℕ) [ None ↦ 0 | Some d ↦ d.index ]) e))))
+    (λ ne. inr (λ e. ne (ap (λ (o : Option Cell). elim o as (λ _. ℕ) [ None ↦ 0 | Some d ↦ d.generation ]) e)))
+
+-- an open claim of another cell stays
+pub drop_other : (o : Option Cell) (g i h j : ℕ) → o ≡ Some (cell h j) → ((h ≡ g) × (j ≡ i) → ⊥) → drop_claim o g i ≡ Some (cell h j)
+drop_other o g i h j is apart =
+    ap (λ (x : Option Cell). drop_claim x g i) is ∙ dite (ℕ_discrete h g)
+    (λ eg. dite (ℕ_discrete j i)
+    (λ ei. absurd (apart (eg, ei)))
+    (λ ne. subst (λ (b : Bool). (if b then None else Some (cell h j)) ≡ Some (cell h j)) (sym (subst (λ (b : Bool). ((h == g) && b) ≡ false) (sym (ne_eqb j i ne)) (and_false (h == g)))) refl))
+    (λ ne. subst (λ (b : Bool). (if (b && (j == i)) then None else Some (cell h j)) ≡ Some (cell h j)) (sym (ne_eqb h g ne)) refl)
+  where
+    and_false : (b : Bool) → (b && false) ≡ false
+    and_false true = refl
+    and_false false = refl
+
+pub drop_own : (o : Option Cell) (g i : ℕ) → (o ≡ None) ⊎ (o ≡ Some (cell g i)) → drop_claim o g i ≡ None
+drop_own o g i =
+    ⊎_elim
+    (λ (e : o ≡ None). ap (λ (x : Option Cell). drop_claim x g i) e)
+    (λ (e : o ≡ Some (cell g i)). ap (λ (x : Option Cell). drop_claim x g i) e ∙ subst (λ (b : Bool). (if (b && (i == i)) then None else Some (cell g i)) ≡ None) (sym (eq-eqb g g refl)) (subst (λ (b : Bool). (if b then None else Some (cell g i)) ≡ None) (sym (eq-eqb i i refl)) refl))
+
+module _ (l : Layout) (mark : List ℕ) (s : State) (i : ℕ) (v : View) (live : v.live ≡ true) (p : PassAt l mark s i v) where
+  -- any new view of what was so already
+  module _ (w : View) (known : Keeps (look w.known) s.cells) (front : w.front ≡ s.history)
+      (same : (w.number ≡ v.number) × (w.layout ≡ v.layout) × (w.tag ≡ v.tag) × (w.numbers ≡ v.numbers) × (w.beside ≡ v.beside) × (w.beside_numbers ≡ v.beside_numbers) × (w.spare ≡ v.spare) × (w.generation ≡ v.generation) × (w.currents ≡ v.currents) × (w.live ≡ v.live))
+      (sums : (w.counted ≡ v.counted) × (w.uncounted ≡ v.uncounted)) (count : w.count_seen ≤ s.count) where
+    stays_at : PassAt l mark s i w
+    stays_at =
+        let numbers : all_numbers w ≡ all_numbers v = λ k. same.3 k ++ same.5 k in
+        record {
+          number = same.0 ∙ p.number;
+          layout = same.1 ∙ p.layout;
+          tag = same.2 ∙ p.tag;
+          front = subst (λ (x : List Entry). StartsWithOwn w.numbers x s.history) (sym front) (own_whole w.numbers s.history);
+          beside = subst (λ (x : List ℕ × List Entry). StartsWithOwn x.0 x.1 s.history) (λ k. (sym same.5 k, sym same.4 k)) p.beside;
+          knows = known;
+          own = subst (λ (x : ℕ × List ℕ). is_in x.0 x.1 ≡ true) (λ k. (sym same.0 k, sym same.3 k)) p.own;
+          tally = ap (λ (ns : List ℕ). length (by_any ns s.history)) numbers ∙ (p.tally ∙ sym (λ k. sums.0 k + length (sums.1 k)));
+          spare = λ h. same.6 ∙ p.spare h;
+          distinct = subst Rattle.map_core.specs.Passes.Distinct (sym numbers) p.distinct;
+          count_seen = count;
+          generation = subst (λ (x : ℕ × List ℕ). is_in x.0 x.1 ≡ true) (λ k. (sym same.7 k, sym same.8 k)) p.generation;
+          currents = λ c h. p.currents c (subst (λ (x : List ℕ). is_in c x ≡ true) same.8 h);
+        }
+
+    pub stays_turn : ((g j : ℕ) → IsCell l g j → IsUnset l s.cells g j → (w.claim ≡ Some (cell g j)) ⊎ (v.claim ≢ Some (cell g j))) → Turn l mark s s i v w
+    stays_turn claims =
+        record {
+          keeps = λ q h. refl;
+          current = omega arith;
+          count = omega arith;
+          added = [];
+          grows = append-nil s.history;
+          mine = tt;
+          live = (live, same.9 ∙ live);
+          numbers = λ k. same.3 k ++ same.5 k;
+          spare = same.6;
+          at = stays_at;
+          counted = ap (λ (x : ℕ). x + s.count) sums.0;
+          placed = λ k. (sums.0 k + length (sums.1 k)) + length s.history;
+          claims = λ g j a unset. ⊎_elim
+              (λ (e : w.claim ≡ Some (cell g j)). inl e)
+              (λ (ne : v.claim ≢ Some (cell g j)). inr (unset, ne))
+              (claims g j a unset);
+        }
+
+  same_claim : (w : View) → w.claim ≡ v.claim → (g j : ℕ) → (w.claim ≡ Some (cell g j)) ⊎ (v.claim ≢ Some (cell g j))
+  same_claim w same g j = ⊎_elim (λ (e : v.claim ≡ Some (cell g j)). inl (same ∙ e)) (λ (ne : v.claim ≢ Some (cell g j)). inr ne) (claim_cases v.claim g j)
+
+  pub sees_turn : (q n : ℕ) → s.cells q ≡ n → Turn l mark s s i v (sees v s.history q n)
+  sees_turn q n is =
+      stays_turn (sees v s.history q n) (knows_more v.known s.cells q n is p.knows) refl (refl, refl, refl, refl, refl, refl, refl, refl, refl, refl) (refl, refl) p.count_seen
+      (λ g j a unset. same_claim (sees v s.history q n) refl g j)
+
+  pub counts_seen_turn : Turn l mark s s i v (counts_seen v s.history s.count)
+  counts_seen_turn =
+      stays_turn (counts_seen v s.history s.count) p.knows refl (refl, refl, refl, refl, refl, refl, refl, refl, refl, refl) (refl, refl) (omega arith)
+      (λ g j a unset. same_claim (counts_seen v s.history s.count) refl g j)
+
+  pub reads_turn : (g j n : ℕ) → IsCell l g j → s.cells (value_place l g j) ≡ n → Turn l mark s s i v (reads l v s.history g j n)
+  reads_turn g j n a is =
+      let w : View = reads l v s.history g j n in
+      stays_turn w (knows_more v.known s.cells (value_place l g j) n is p.knows) refl (refl, refl, refl, refl, refl, refl, refl, refl, refl, refl) (refl, refl) p.count_seen
+      (λ h k b unset. ⊎_elim
+      (λ (e : v.claim ≡ Some (cell h k)). dite (ℕ_discrete n 0)
+      (λ z. inl (subst (λ (t : Bool). (if t then v.claim else drop_claim v.claim g j) ≡ Some (cell h k)) (sym (eq-eqb n 0 z)) e))
+      (λ nz. inl (subst (λ (t : Bool). (if t then v.claim else drop_claim v.claim g j) ≡ Some (cell h k)) (sym (ne_eqb n 0 nz))
+      (drop_other v.claim g j h k e (λ same. nz (sym is ∙ (ap (λ (x : ℕ × ℕ). s.cells (value_place l x.0 x.1)) (λ t. (sym same.0 t, sym same.1 t)) ∙ unset.1)))))))
+      (λ (ne : v.claim ≢ Some (cell h k)). inr ne)
+      (claim_cases v.claim h k))
+
+  -- a claim that was won
+  pub grabs_turn : (t : State) (g j k : ℕ) → IsCell l g j → IsWord k → v.claim ≡ None → Writes (key_place l g j) 0 k s t → t.history ≡ s.history → Turn l mark s t i v (grabs l v t.history g j k)
+  grabs_turn t g j k a word free wr log =
+      let w : View = grabs l v t.history g j k in
+      let keeps : Keeps s.cells t.cells = keeps_at (key_place l g j) s.cells t.cells wr.was wr.only in
+      let back : PassAt l mark t i w = record {
+        number = p.number;
+        layout = p.layout;
+        tag = p.tag;
+        front = own_whole v.numbers t.history;
+        beside = subst (λ (x : List Entry). StartsWithOwn v.beside_numbers v.beside x) (sym log) p.beside;
+        knows = knows_more v.known t.cells (key_place l g j) k wr.is (keeps_trans (look v.known) s.cells t.cells p.knows keeps);
+        own = p.own;
+        tally = ap (λ (x : List Entry). length (by_any (all_numbers v) x)) log ∙ p.tally;
+        spare = p.spare;
+        distinct = p.distinct;
+        count_seen = subst (λ (x : ℕ). v.count_seen ≤ x) (sym wr.count) p.count_seen;
+        generation = p.generation;
+        currents = λ c h. let b = p.currents c h in (b.0, subst (λ (x : ℕ). c ≤ x) (sym wr.current) b.1);
+      } in
+      record {
+        keeps = keeps;
+        current = let e = wr.current in omega arith;
+        count = let e = wr.count in omega arith;
+        added = [];
+        grows = append-nil s.history ∙ sym log;
+        mine = tt;
+        live = (live, live);
+        numbers = refl;
+        spare = refl;
+        at = back;
+        counted = ap (λ (x : ℕ). v.counted + x) (sym wr.count);
+        placed = ap (λ (x : List Entry). placed v + length x) (sym log);
+        claims = λ h m b unset. dite (ℕ_discrete (key_place l h m) (key_place l g j))
+            (λ e. let same = key_key l h m g j b a e in inl (λ x. Some (cell (sym same.0 x) (sym same.1 x))))
+            (λ ne.
+            let key = wr.only (key_place l h m) ne in
+            let value = wr.only (value_place l h m) (value_key l h m g j) in
+            inr ((subst IsWord key unset.0, sym value ∙ unset.1), (λ e. let bad : None ≡ Some (cell h m) = sym free ∙ e in absurd (cc))));
+      }
+
+  -- a publish that was won, of a new entry
+  pub places_turn : (t : State) (g j k x : ℕ) → IsCell l g j → 0 < x → v.beside_numbers ≡ [] → Writes (value_place l g j) 0 x s t → t.history ≡ s.history ++ entry v.number k x ∷ []
+      → Turn l mark s t i v (places l v t.history g j x (entry v.number k x))
+  places_turn t g j k x a pos alone wr log =
+      let e : Entry = entry v.number k x in
+      let w : View = places l v t.history g j x e in
+      let keeps : Keeps s.cells t.cells = keeps_at (value_place l g j) s.cells t.cells wr.was wr.only in
+      let mine : is_in e.who (all_numbers v) ≡ true = in_first v.number v.numbers v.beside_numbers p.own in
+      let new : by_any (all_numbers v) t.history ≡ by_any (all_numbers v) s.history ++ e ∷ [] =
+      ap (by_any (all_numbers v)) log ∙ (by_append (all_numbers v) s.history (e ∷ []) ∙ ap (λ (y : List Entry). by_any (all_numbers v) s.history ++ y) (by_hit (all_numbers v) e [] mine)) in
+      let more : length (v.uncounted ++ e ∷ []) ≡ length v.uncounted + 1 = length-append v.uncounted (e ∷ []) in
+      let more_log : length t.history ≡ length s.history + 1 = ap (λ (y : List Entry). length y) log ∙ length-append s.history (e ∷ []) in
+      let none : by_any v.beside_numbers (e ∷ []) ≡ [] = ap (λ (ns : List ℕ). by_any ns (e ∷ [])) alone in
+      let n : ℕ = length v.uncounted in
+      let m : ℕ = length s.history in
+      let m' : ℕ = length t.history in
+      let y : ℕ = length (v.uncounted ++ e ∷ []) in
+      let z : ℕ = v.counted in
+      let more' : y ≡ n + 1 = more in
+      let more_log' : m' ≡ m + 1 = more_log in
+      let back : PassAt l mark t i w = record {
+        number = p.number;
+        layout = p.layout;
+        tag = p.tag;
+        front = own_whole v.numbers t.history;
+        beside = own_grows v.beside_numbers v.beside s.history (e ∷ []) t.history p.beside (sym log) none;
+        knows = knows_more v.known t.cells (value_place l g j) x wr.is (keeps_trans (look v.known) s.cells t.cells p.knows keeps);
+        own = p.own;
+        tally =
+            let lengths : length (by_any (all_numbers v) s.history ++ e ∷ []) ≡ length (by_any (all_numbers v) s.history) + 1 = length-append (by_any (all_numbers v) s.history) (e ∷ []) in
+            let count : length (by_any (all_numbers v) s.history) ≡ z + n = p.tally in
+            let q : ℕ = length (by_any (all_numbers v) s.history) in
+            let q' : ℕ = length (by_any (all_numbers v) s.history ++ e ∷ []) in
+            let l1 : q' ≡ q + 1 = lengths in
+            let l2 : q ≡ z + n = count in
+            let sum : q' ≡ z + y = omega arith in
+            ap (λ (es : List Entry). length es) new ∙ sum;
+        spare = p.spare;
+        distinct = p.distinct;
+        count_seen = subst (λ (c : ℕ). v.count_seen ≤ c) (sym wr.count) p.count_seen;
+        generation = p.generation;
+        currents = λ c h. let b = p.currents c h in (b.0, subst (λ (d : ℕ). c ≤ d) (sym wr.current) b.1);
+      } in
+      record {
+        keeps = keeps;
+        current = let c = wr.current in omega arith;
+        count = let c = wr.count in omega arith;
+        added = e ∷ [];
+        grows = sym log;
+        mine = (p.number, tt);
+        live = (live, live);
+        numbers = refl;
+        spare = refl;
+        at = back;
+        counted = ap (λ (c : ℕ). v.counted + c) (sym wr.count);
+        placed = let sum : (z + y) + m ≡ (z + n) + m' = omega arith in sum;
+        claims = λ h o b unset.
+            let apart : (h ≡ g) × (o ≡ j) → ⊥ = λ same.
+            let at : t.cells (value_place l h o) ≡ x = ap (λ (c : ℕ × ℕ). t.cells (value_place l c.0 c.1)) (λ c. (same.0 c, same.1 c)) ∙ wr.is in
+            let zero_there = unset.1 in omega arith in
+            let value = wr.only (value_place l h o) (λ same. apart (value_value l h o g j b a same)) in
+            let key = wr.only (key_place l h o) (key_value l h o g j) in
+            ⊎_elim
+            (λ (c : v.claim ≡ Some (cell h o)). inl (drop_other v.claim g j h o c apart))
+            (λ (c : v.claim ≢ Some (cell h o)). inr ((subst IsWord key unset.0, sym value ∙ unset.1), c))
+            (claim_cases v.claim h o);
+      }
+
+  -- one entry is counted
+  pub tallies_turn : (t : State) → ((q : ℕ) → t.cells q ≡ s.cells q) → t.history ≡ s.history → t.count ≡ s.count + 1 → t.current ≡ s.current → 0 < length v.uncounted → Turn l mark s t i v (tallies v t.history t.count)
+  tallies_turn t cells log count current some_left =
+      let w : View = tallies v t.history t.count in
+      let keeps : Keeps s.cells t.cells = λ q h. cells q in
+      let n : ℕ = length (rest_of v.uncounted) in
+      let m : ℕ = length v.uncounted in
+      let one_less : n + 1 ≡ m = one_counted v.uncounted some_left in
+      let z : ℕ = v.counted in
+      let sum : (z + 1) + n ≡ z + m = omega arith in
+      let back : PassAt l mark t i w = record {
+        number = p.number;
+        layout = p.layout;
+        tag = p.tag;
+        front = own_whole v.numbers t.history;
+        beside = subst (λ (x : List Entry). StartsWithOwn v.beside_numbers v.beside x) (sym log) p.beside;
+        knows = keeps_trans (look v.known) s.cells t.cells p.knows keeps;
+        own = p.own;
+        tally = ap (λ (x : List Entry). length (by_any (all_numbers v) x)) log ∙ (p.tally ∙ sym sum);
+        spare = p.spare;
+        distinct = p.distinct;
+        count_seen = omega arith;
+        generation = p.generation;
+        currents = λ c h. let b = p.currents c h in (b.0, subst (λ (d : ℕ). c ≤ d) (sym current) b.1);
+      } in
+      record {
+        keeps = keeps;
+        current = omega arith;
+        count = omega arith;
+        added = [];
+        grows = append-nil s.history ∙ sym log;
+        mine = tt;
+        live = (live, live);
+        numbers = refl;
+        spare = refl;
+        at = back;
+        counted = omega arith;
+        placed = λ k. sum k + length (sym log k);
+        claims = λ g j a unset. ⊎_elim
+            (λ (c : v.claim ≡ Some (cell g j)). inl c)
+            (λ (c : v.claim ≢ Some (cell g j)). inr ((subst IsWord (cells (key_place l g j)) unset.0, sym (cells (value_place l g j)) ∙ unset.1), c))
+            (claim_cases v.claim g j);
+      }
+    where
+      one_counted : (es : List Entry) → 0 < length es → length (rest_of es) + 1 ≡ length es
+      one_counted [] h = absurd (omega arith)
+      one_counted (e ∷ es) h = omega arith
+
+  -- a join settles
+  pub settles_turn : Turn l mark s s i v (settles v s.history)
+  settles_turn =
+      let w : View = settles v s.history in
+      let numbers : all_numbers w ≡ all_numbers v = append-nil (all_numbers v) in
+      let back : PassAt l mark s i w = record {
+        number = p.number;
+        layout = p.layout;
+        tag = p.tag;
+        front = own_whole (all_numbers v) s.history;
+        beside = record { rest = s.history; joins = refl; others = none_by s.history };
+        knows = p.knows;
+        own = in_first v.number v.numbers v.beside_numbers p.own;
+        tally = ap (λ (ns : List ℕ). length (by_any ns s.history)) numbers ∙ p.tally;
+        spare = p.spare;
+        distinct = subst Rattle.map_core.specs.Passes.Distinct (sym numbers) p.distinct;
+        count_seen = p.count_seen;
+        generation = p.generation;
+        currents = p.currents;
+      } in
+      record {
+        keeps = λ q h. refl;
+        current = omega arith;
+        count = omega arith;
+        added = [];
+        grows = append-nil s.history;
+        mine = tt;
+        live = (live, live);
+        numbers = numbers;
+        spare = refl;
+        at = back;
+        counted = refl;
+        placed = refl;
+        claims = λ g j a unset. ⊎_elim
+            (λ (c : v.claim ≡ Some (cell g j)). inl c)
+            (λ (c : v.claim ≢ Some (cell g j)). inr (unset, c))
+            (claim_cases v.claim g j);
+      }
+    where
+      none_by : (es : List Entry) → by_any [] es ≡ []
+      none_by [] = refl
+      none_by (e ∷ es) = none_by es

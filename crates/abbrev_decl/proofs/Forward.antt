@@ -1,14 +1,15 @@
 -- Readers go forward, and none reads at the end.
-use Rattle.std.proofs.Common.{◌≡◌, ℕ, ◌+◌, ◌-◌, ◌<◌, ◌≤◌, Result, Ok, Err, Option, Some, None, Bool, true, false, cond, refl, subst, arith, take, drop, nat_le}
+use Rattle.std.proofs.Common.{◌≡◌, ℕ, ◌-◌, ◌<◌, ◌≤◌, Result, Ok, Err, Bool, true, false, cond, refl, subst, arith}
 use Rattle.dw_fields.specs.declared.fault_code.Fault.{Fault}
 use Rattle.dw_fields.specs.declared.fault_code.Code.{Code}
-use Rattle.dw_fields.specs.declared.fault_code.Code.TheVariants.{Truncated, LebTooLarge}
+use Rattle.dw_fields.specs.declared.fault_code.Code.TheVariants.{Truncated}
 use Rattle.dw_fields.specs.Codes.{fault}
-use Rattle.dw_fields.specs.Span.{Span, rest_of}
-use Rattle.dw_fields.specs.Leb.{last_group, leb_sum, signed_leb_sum, within_signed, within_unsigned}
-use Rattle.dw_fields.specs.Reading.{◌>>=◌, renamed, bytes_at, number_at, uleb_at, sleb_at}
+use Rattle.dw_fields.specs.Span.{Span}
+use Rattle.dw_fields.specs.Leb.{last_group}
+use Rattle.dw_fields.specs.Answers.{IsPast, number_at-past, uleb_at-past, sleb_at-past}
+use Rattle.dw_fields.specs.Reading.{◌>>=◌, renamed, number_at, uleb_at, sleb_at}
 
--- what was read ends at least so many bytes behind the place
+-- what was read ends behind the place
 abbrev pub Ahead : {X : Type 0} → ℕ → Result (X × ℕ) Fault → Type 0
 Ahead place (Ok read) = place < read.1
 Ahead place (Err f) = Unit {0}
@@ -33,29 +34,19 @@ pub Ahead-either : {X : Type 0} → (test : Bool) (place : ℕ) (then_read else_
 Ahead-either true place then_read else_read h k = h
 Ahead-either false place then_read else_read h k = k
 
+-- what a field of the readers below comes to
+past_ahead : {X : Type 0} → (s : Span) (answer : Result (X × ℕ) Fault) → IsPast 1 s answer → Ahead s.place answer
+past_ahead s (Ok read) past = omega (arith, past.0)
+past_ahead s (Err f) past = tt
+
 pub byte_ahead : (s : Span) → Ahead s.place (number_at 1 s)
-unfolding number_at bytes_at
-byte_ahead s =
-    Ahead-then s.place (bytes_at 1 s) _ (Ahead-either (nat_le (s.place + 1) s.end) s.place (Ok (take 1 (drop s.place s.bytes), s.place + 1)) (Err (fault Truncated s.place)) (omega arith) tt) (λ field p. p)
-
-value_ahead : {X : Type 0} → (place n : ℕ) (value : Option X)
-    → Ahead place (elim value [ None ↦ Err (fault LebTooLarge place) | Some x ↦ Ok (x, place + (n + 1)) ])
-value_ahead place n None = tt
-value_ahead place n (Some x) = omega arith
-
--- of a LEB128: the groups that end it, and their value
-groups_ahead : {X : Type 0} → (place : ℕ) (groups : Option ℕ) (value : ℕ → Option X)
-    → Ahead place (elim groups [ None ↦ Err (fault Truncated place) | Some n ↦ (elim (value n) [ None ↦ Err (fault LebTooLarge place) | Some x ↦ Ok (x, place + (n + 1)) ]) ])
-groups_ahead place None value = tt
-groups_ahead place (Some n) value = value_ahead place n (value n)
+byte_ahead s = past_ahead s (number_at 1 s) (number_at-past 1 s)
 
 pub uleb_ahead : (s : Span) → Ahead s.place (uleb_at s)
-unfolding uleb_at
-uleb_ahead s = groups_ahead s.place (last_group (rest_of s)) (λ n. within_unsigned (leb_sum (take (n + 1) (rest_of s))))
+uleb_ahead s = past_ahead s (uleb_at s) (uleb_at-past s)
 
 pub sleb_ahead : (s : Span) → Ahead s.place (sleb_at s)
-unfolding sleb_at
-sleb_ahead s = groups_ahead s.place (last_group (rest_of s)) (λ n. within_signed (signed_leb_sum (take (n + 1) (rest_of s))))
+sleb_ahead s = past_ahead s (sleb_at s) (sleb_at-past s)
 
 pub uleb_end : (s : Span) → s.end ≤ s.place → uleb_at s ≡ Err (fault Truncated s.place)
 unfolding uleb_at last_group

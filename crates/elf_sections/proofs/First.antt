@@ -1,5 +1,5 @@
 -- The first of a row of numbers whose value passes a test, as a loop finds it.
-use Rattle.std.proofs.Common.{◌≡◌, ◌+◌, ◌-◌, ◌<◌, ◌≤◌, ℕ, zero, suc, Bool, true, false, if◌then◌else◌, List, [], ◌∷◌, map, Option, Some, None, refl, ap, sym, ◌∙◌, subst, add-zero, arith}
+use Rattle.std.proofs.Common.{◌≡◌, ◌+◌, ◌-◌, ◌<◌, ◌≤◌, ℕ, zero, suc, Bool, true, false, if◌then◌else◌, map, Option, Some, None, refl, add-zero, arith}
 use Rattle.std.specs.List.{range_with_len}
 use Rattle.elf_sections.specs.Refusals.{first_in}
 

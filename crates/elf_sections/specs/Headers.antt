@@ -1,6 +1,6 @@
 -- The ELF header and the section headers (gABI chapter 4, "ELF Header" and "Section Header"). Each place
 -- is the sum of the fields before it.
-use Rattle.std.specs.Prelude.{ℕ, ◌+◌, ◌*◌, ◌-◌, ◌≤◌, ◌<◌, ◌==◌, nat_lt, nat_le, Bool, not, if◌then◌else◌, List, length, map, Result, Ok, Err}
+use Rattle.std.specs.Prelude.{ℕ, ◌+◌, ◌*◌, ◌-◌, ◌≤◌, ◌<◌, ◌==◌, nat_lt, nat_le, not, if◌then◌else◌, List, length, map, Result, Ok}
 use Rattle.std.specs.List.{range_with_len}
 use Rattle.elf_sections.specs.declared.layout.Layout.{Layout}
 use Rattle.elf_sections.specs.declared.header.FileHeader.{FileHeader}
@@ -22,23 +22,23 @@ header_size layout = 16 + 6 * word_size layout
 -- e_type, e_shoff, e_shentsize, e_shnum and e_shstrndx
 unfoldable pub file_header : Layout → List ℕ → FileHeader
 file_header layout file = record {
-    kind = field layout.order 2 16 file;
-    table = word layout (24 + 2 * word_size layout) file;
-    entry_size = field layout.order 2 (34 + 3 * word_size layout) file;
-    count = field layout.order 2 (36 + 3 * word_size layout) file;
-    names = field layout.order 2 (38 + 3 * word_size layout) file
-  }
+  kind = field layout.order 2 16 file;
+  table = word layout (24 + 2 * word_size layout) file;
+  entry_size = field layout.order 2 (34 + 3 * word_size layout) file;
+  count = field layout.order 2 (36 + 3 * word_size layout) file;
+  names = field layout.order 2 (38 + 3 * word_size layout) file;
+}
 
 -- sh_name, sh_type, sh_flags, sh_offset, sh_size and sh_link of the section header at a place
 unfoldable pub header_at : Layout → List ℕ → ℕ → Header
 header_at layout file place = record {
-    name = field layout.order 4 place file;
-    kind = field layout.order 4 (place + 4) file;
-    flags = word layout (place + 8) file;
-    offset = word layout (place + (8 + 2 * word_size layout)) file;
-    size = word layout (place + (8 + 3 * word_size layout)) file;
-    link = field layout.order 4 (place + (8 + 4 * word_size layout)) file
-  }
+  name = field layout.order 4 place file;
+  kind = field layout.order 4 (place + 4) file;
+  flags = word layout (place + 8) file;
+  offset = word layout (place + (8 + 2 * word_size layout)) file;
+  size = word layout (place + (8 + 3 * word_size layout)) file;
+  link = field layout.order 4 (place + (8 + 4 * word_size layout)) file;
+}
 
 -- Where e_shnum is 0, the size field of section header 0 is the number of section headers.
 unfoldable pub count_of : Layout → FileHeader → List ℕ → Result ℕ ElfRefusal

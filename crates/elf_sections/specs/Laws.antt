@@ -1,5 +1,5 @@
 -- What follows from the definition of a file's sections.
-use Rattle.std.specs.Prelude.{◌≡◌, ℕ, ◌+◌, ◌<◌, ◌≤◌, ◌^◌, nat_lt, Bool, true, false, if◌then◌else◌, List, [], ◌∷◌, length, take, drop, map, Option, Some, None, Result, Ok, Err, refl}
+use Rattle.std.specs.Prelude.{◌≡◌, ℕ, ◌+◌, ◌<◌, ◌≤◌, ◌^◌, nat_lt, Bool, true, false, if◌then◌else◌, List, [], ◌∷◌, length, take, drop, map, Option, Result, Ok, Err, refl}
 use Rattle.std.proofs.Common.{arith, ap, subst, sym, ◌∙◌, length-drop}
 use Rattle.std.proofs.lemmas.Bool.{lt-ltb, ltb-true, ltb-false}
 use Rattle.std.proofs.lemmas.List.{length-take, take_all}
@@ -8,11 +8,11 @@ use Rattle.elf_sections.specs.declared.layout.Layout.{Layout}
 use Rattle.elf_sections.specs.declared.table.Table.{Table}
 use Rattle.elf_sections.specs.declared.refusals.ElfRefusal.{ElfRefusal}
 use Rattle.elf_sections.specs.declared.refusals.ElfRefusal.TheVariants.{FileLimit, NameOutside, SectionBounds, Compressed}
-use Rattle.elf_sections.specs.Refusals.{◌>>=◌, ◌>>◌, refuse, refuse_at, first_in}
+use Rattle.elf_sections.specs.Refusals.{◌>>=◌, refuse_at, first_in}
 use Rattle.elf_sections.specs.Layouts.{magic_of, layout_of}
-use Rattle.elf_sections.specs.Headers.{headers_of, table_of}
+use Rattle.elf_sections.specs.Headers.{headers_of}
 use Rattle.elf_sections.specs.Names.{has_bytes, is_out_of_bounds, contents_of, has_no_name, is_compressed, row_of, null_row, name_bytes, named_rows, rows_of, elf_of}
-use Rattle.elf_sections.specs.Rows.{Row, ElfView, AllShort}
+use Rattle.elf_sections.specs.Rows.{Row, AllShort}
 
 -- an answer comes from an answer of the first step
 record Came {A B : Type 0} (a : Result A ElfRefusal) (f : A → Result B ElfRefusal) (b : B) : Type 0 where

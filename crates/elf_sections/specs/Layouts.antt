@@ -3,7 +3,7 @@
 --
 -- Both classes have the same fields in the same order. A word (an address, an offset, a size, the flags
 -- of a section) has 4 bytes in class 1 and 8 in class 2; every other field is as wide in both.
-use Rattle.std.specs.Prelude.{ℕ, ◌+◌, ◌*◌, ◌^◌, ◌==◌, nat_eq, nat_lt, Bool, true, not, if◌then◌else◌, List, ◌∷◌, [], length, drop, slice_index, codes, Result, Ok, Err}
+use Rattle.std.specs.Prelude.{ℕ, ◌^◌, ◌==◌, nat_eq, nat_lt, Bool, true, not, if◌then◌else◌, List, ◌∷◌, length, drop, slice_index, codes, Result, Ok, Err}
 use Rattle.std.specs.List.{starts_with}
 use Rattle.dw_fields.specs.declared.byte_order.Order.{Order}
 use Rattle.dw_fields.specs.declared.byte_order.Order.TheVariants.{Little}

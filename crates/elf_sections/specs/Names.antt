@@ -1,5 +1,5 @@
 -- What a section header stands for: the section's bytes and name, and when they are refused.
-use Rattle.std.specs.Prelude.{◌≡◌, ℕ, ◌+◌, ◌==◌, nat_eq, nat_lt, nat_le, bit_and, Bool, not, ◌&&◌, ◌||◌, if◌then◌else◌, List, [], ◌∷◌, length, take, drop, position, codes, map, Option, Some, None, option_map, is_none, unwrap_or, Result, Ok, Err}
+use Rattle.std.specs.Prelude.{ℕ, ◌+◌, ◌==◌, nat_eq, nat_lt, nat_le, bit_and, Bool, not, ◌&&◌, ◌||◌, if◌then◌else◌, List, [], ◌∷◌, length, take, drop, position, codes, map, Option, Some, None, option_map, is_none, unwrap_or, Result, Ok}
 use Rattle.std.specs.List.{starts_with}
 use Rattle.elf_sections.specs.declared.header.Header.{Header}
 use Rattle.elf_sections.specs.declared.layout.Layout.{Layout}
@@ -45,12 +45,12 @@ has_no_name names header = is_none (name_of names header)
 
 abbrev pub row_of : List ℕ → Option (List ℕ) → Header → Row
 row_of file names header = record {
-    name = unwrap_or (name_of names header) [];
-    kind = header.kind;
-    flags = header.flags;
-    size = header.size;
-    bytes = contents_of file header
-  }
+  name = unwrap_or (name_of names header) [];
+  kind = header.kind;
+  flags = header.flags;
+  size = header.size;
+  bytes = contents_of file header;
+}
 
 -- section 0, whatever its header holds
 abbrev pub null_row : Row

@@ -1,5 +1,5 @@
 -- What a file's section table holds, as lists of bytes and numbers.
-use Rattle.std.specs.Prelude.{ℕ, ◌<◌, ◌^◌, List, [], ◌∷◌, Option, Some, None, length, codes, if◌then◌else◌, unwrap_or, option_map, IfSome}
+use Rattle.std.specs.Prelude.{ℕ, ◌<◌, ◌^◌, List, [], ◌∷◌, Option, Some, None, length, if◌then◌else◌}
 use Rattle.std.specs.Str.{bytes_eq}
 use Rattle.dw_fields.specs.declared.byte_order.Order.{Order}
 

@@ -1,5 +1,5 @@
 -- How a contract sees sections and the bytes behind their references.
-use Rattle.std.specs.Prelude.{ℕ, ◌<◌, ◌^◌, List, [], ◌∷◌, Option, Some, None, length, codes, unwrap_or, option_map, IfSome}
+use Rattle.std.specs.Prelude.{ℕ, ◌<◌, ◌^◌, List, [], Option, length, codes, unwrap_or, option_map, IfSome}
 use Rattle.dw_fields.specs.declared.byte_order.Order.{Order}
 use Rattle.elf_sections.specs.declared.headed.Section.{Section}
 use Rattle.elf_sections.specs.declared.debug.Sections.{Sections}

@@ -1,9 +1,10 @@
 //! The sections with debugging data, by their names (DWARF 5 section 7.1 and appendix B).
 
-ghost use Rattle.std.specs.Prelude.{◌≡◌, ◌<◌, ◌^◌, [], length, map, option_map, unwrap_or, IfSome};
+ghost use Rattle.std.specs.Prelude.{◌≡◌, ◌<◌, ◌^◌, [], length, map, unwrap_or};
 ghost use Rattle.elf_sections.specs.Rows.{bytes_named, AllShort};
 ghost use Rattle.elf_sections.specs.Shapes.{row, sections_view, sections_of, AreShort};
 
+use crate::by_name::first_named;
 use crate::headed::Section;
 use dw_fields::Order;
 
@@ -39,22 +40,7 @@ pub struct Sections<'f> {
     pub frame: Option<&'f [u8]>,
 }
 
-/// The bytes of the first of these sections that has this name.
-#[tactic(auto, unfolding(crate::specs::Rows::bytes_named))]
-pub(crate) fn first_named<'f>(sections: &[Section<'f>], name: &[u8]) -> Option<&'f [u8]>
-    requires { AllShort (map row sections.now) }
-    ensures bytes { option_map (λ b. b.now) result ≡ bytes_named name.now (map row sections.now) }
-    ensures short { IfSome result (λ b. length b.now < 2 ^ 32) }
-{
-    for section in sections {
-        if section.name == name {
-            return Some(section.bytes);
-        }
-    }
-    None
-}
-
-/// The same, where an absent section counts as an empty one.
+/// The bytes of the first of these sections that has this name; an absent section counts as empty.
 fn first_named_or_empty<'f>(sections: &[Section<'f>], name: &[u8]) -> &'f [u8]
     requires { AllShort (map row sections.now) }
     ensures bytes { result.now ≡ unwrap_or (bytes_named name.now (map row sections.now)) [] }

@@ -75,7 +75,13 @@ fn add<'f>(sections: &mut Vec<Section<'f>>, section: Section<'f>) -> Result<(), 
 
 /// The sections with their names, or the first that has none.
 #[tactic(auto, unfolding(crate::specs::Names::named_rows))]
-fn named_sections<'f>(alloc: Global, file: &'f [u8], layout: Layout, table: Table, names: Option<&'f [u8]>) -> Result<Vec<Section<'f>>, OpenRefusal>
+fn named_sections<'f>(
+    alloc: Global,
+    file: &'f [u8],
+    layout: Layout,
+    table: Table,
+    names: Option<&'f [u8]>,
+) -> Result<Vec<Section<'f>>, OpenRefusal>
     requires inside { IsInside layout table file.now }
     requires some { 0 < table.count }
     requires bounds { first_in (is_out_of_bounds file.now) 1 (headers_of layout table file.now) ≡ None }
@@ -123,7 +129,12 @@ fn first_compressed(sections: &[Section<'_>]) -> Option<u64>
 
 /// The sections of a table that isn't empty.
 #[tactic(auto, unfolding(crate::specs::Names::rows_of))]
-pub(crate) fn read_sections<'f>(alloc: Global, file: &'f [u8], layout: Layout, table: Table) -> Result<Vec<Section<'f>>, OpenRefusal>
+pub(crate) fn read_sections<'f>(
+    alloc: Global,
+    file: &'f [u8],
+    layout: Layout,
+    table: Table,
+) -> Result<Vec<Section<'f>>, OpenRefusal>
     requires inside { IsInside layout table file.now }
     requires some { 0 < table.count }
     ensures { Opens (λ v. map row v.items) result (rows_of layout table file.entry.now) }

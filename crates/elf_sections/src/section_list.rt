@@ -6,7 +6,8 @@ ghost use Rattle.elf_sections.specs.Names.{elf_of};
 ghost use Rattle.elf_sections.specs.Rows.{bytes_named, AllShort};
 ghost use Rattle.elf_sections.specs.Shapes.{row, sections_view, sections_of, AreShort};
 
-use crate::debug::{Sections, debug_sections_among, first_named};
+use crate::by_name::first_named;
+use crate::debug::{Sections, debug_sections_among};
 use crate::headed::Section;
 use crate::layout::read_layout;
 use crate::reading::read_sections;

@@ -1,5 +1,4 @@
 use Rattle.std.proofs.Common.{◌≡◌, ◌<◌, ◌^◌, length, Option, Some, None, option_map, IfSome, List, ℕ, Bor, refl}
-use Rattle.dw_fields.specs.declared.byte_order.Order.{Order}
 use Rattle.elf_sections.specs.Shapes.{SectionsView, sections_of}
 use Rattle.elf_sections.proofs.debug.debug_sections_among.Goals as goal
 

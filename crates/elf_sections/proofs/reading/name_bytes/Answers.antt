@@ -1,4 +1,4 @@
-use Rattle.std.proofs.Common.{◌≡◌, ◌+◌, ◌-◌, ◌<◌, arith}
+use Rattle.std.proofs.Common.{◌-◌, ◌<◌, arith}
 use Rattle.elf_sections.specs.Headers.{header_of}
 use Rattle.elf_sections.specs.Names.{is_out_of_bounds}
 use Rattle.elf_sections.proofs.First.{none_inside}
@@ -9,4 +9,4 @@ contents_of-requires c =
     let i = c.args.table.names in
     let below : i < c.args.table.count = c.requires.inside.names c.requires.some in
     rw c.header_of-header.ensures (none_inside (is_out_of_bounds c.args.file.now) (header_of c.args.layout c.args.table c.args.file.now)
-        (c.args.table.count - 1) 1 i c.requires.bounds (omega arith) (omega arith))
+    (c.args.table.count - 1) 1 i c.requires.bounds (omega arith) (omega arith))

@@ -1,7 +1,7 @@
-use Rattle.std.proofs.Common.{◌≡◌, ◌+◌, ◌*◌, ◌≤◌, ◌<◌, ℕ, length, arith, sym}
+use Rattle.std.proofs.Common.{◌+◌, ◌*◌, ◌≤◌, ◌<◌, ℕ, length, arith, sym}
 use Rattle.std.proofs.lemmas.Bool.{ltb-false}
 use Rattle.std.proofs.Math.Nat.{mul-le-mul_right}
-use Rattle.elf_sections.specs.Headers.{IsInside, header_size}
+use Rattle.elf_sections.specs.Headers.{header_size}
 use Rattle.elf_sections.proofs.table.table_at.Goals as goal
 
 -- so many pieces fit, so each of them does
@@ -10,7 +10,7 @@ each_fits number count size place end below all = omega (arith, mul-le-mul_right
 
 pub returns-clause-inside : goal.returns-clause-inside
 returns-clause-inside c = record {
-    headers = λ number h. each_fits number c.in_ok-count.count (header_size c.args.layout) c.args.header.table (length c.args.file.now) h
-        (ltb-false _ _ (sym c.if-passes_end.ensures));
-    names = λ h. c.if-names-count.false
-  }
+  headers = λ number h. each_fits number c.in_ok-count.count (header_size c.args.layout) c.args.header.table (length c.args.file.now) h
+      (ltb-false _ _ (sym c.if-passes_end.ensures));
+  names = λ h. c.if-names-count.false;
+}

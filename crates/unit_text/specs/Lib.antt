@@ -1,0 +1,4 @@
+pub mod Pieces
+pub mod Loops
+pub mod UnitLine
+pub mod SectionLine

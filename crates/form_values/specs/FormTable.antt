@@ -1,11 +1,10 @@
 -- Attribute forms (DWARF 5, sections 7.5.5 and 7.5.6, table 7.6): the bytes of each form and the value
 -- that they give.
-use Rattle.std.specs.Prelude.{ℕ, ℤ, ◌==◌, ◌||◌, nat_lt, not, Bool, true, List, Result, Ok, Err, if◌then◌else◌}
+use Rattle.std.specs.Prelude.{ℕ, ℤ, ◌==◌, ◌||◌, nat_lt, not, true, List, Result, Ok, Err, if◌then◌else◌}
 use Rattle.dw_fields.specs.declared.fault_code.Fault.{Fault}
-use Rattle.dw_fields.specs.declared.fault_code.Code.{Code}
 use Rattle.dw_fields.specs.declared.fault_code.Code.TheVariants as causes
 use Rattle.dw_fields.specs.Codes.{fault, is_same_code}
-use Rattle.dw_fields.specs.Span.{Span, at}
+use Rattle.dw_fields.specs.Span.{at}
 use Rattle.dw_fields.specs.Reading.{Reader, ◌>>=◌, bytes_at, number_at, offset_at, uleb_at, sleb_at, text_at}
 use Rattle.form_values.specs.declared.raw.Widths.{Widths}
 use Rattle.form_values.specs.View.{RawView, Address, AddressIndex, Block, Expression, Unsigned, Signed, Wide, Flag, Text, TextOffset, LineTextOffset, TextIndex, Local, Global, Signature, Offset, RangeIndex, LocationIndex, Supplement}

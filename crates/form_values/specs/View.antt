@@ -2,6 +2,8 @@
 use Rattle.std.specs.Prelude.{ℕ, ℤ, Bool, true, false, List}
 use Rattle.form_values.specs.declared.raw.Raw.{Raw}
 use Rattle.form_values.specs.declared.raw.Raw.TheVariants as raws
+use Rattle.form_values.specs.declared.raw.Widths.{Widths}
+use Rattle.unit_headers.specs.declared.fields.UnitHeader.{UnitHeader}
 
 -- a value as it stands in the entry, before an offset or an index in it is followed
 pub data RawView : Type 0 where
@@ -45,6 +47,10 @@ raw_view (raws.Offset n) = Offset n
 raw_view (raws.RangeIndex n) = RangeIndex n
 raw_view (raws.LocationIndex n) = LocationIndex n
 raw_view (raws.Supplement n) = Supplement n
+
+-- the widths that a unit's header gives to the values of its entries
+abbrev pub widths_of : UnitHeader → Widths
+widths_of header = record { wide = header.wide; address_size = header.address_size }
 
 -- the value stands for a text
 abbrev pub is_text : RawView → Bool

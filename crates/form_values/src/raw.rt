@@ -1,5 +1,10 @@
 //! The values of attributes as they stand in the entries, and the facts by which they are followed.
 
+ghost use Rattle.std.specs.Prelude.{◌≡◌};
+ghost use Rattle.form_values.specs.View.{widths_of};
+
+use unit_headers::UnitHeader;
+
 /// The value of an attribute as it stands in the entry, before an offset or an index in it is followed.
 #[derive(Clone, Copy, Debug)]
 pub enum Raw<'f> {
@@ -76,4 +81,17 @@ pub struct Widths {
     pub wide: bool,
     /// Bytes of an address: 2, 4 or 8.
     pub address_size: u8,
+}
+
+impl Widths {
+    /// The widths of the entries of a unit.
+    #[inline]
+    pub fn of(header: &UnitHeader) -> Widths
+        ensures { result ≡ widths_of header.now }
+    {
+        Widths {
+            wide: header.wide,
+            address_size: header.address_size,
+        }
+    }
 }

@@ -4,17 +4,18 @@ ghost use Rattle.std.specs.Prelude.{◌≡◌, ◌≤◌, OnOk};
 ghost use Rattle.dw_fields.specs.Codes.{fault};
 ghost use Rattle.dw_fields.specs.Reading.{Gives, IsAddressSize};
 ghost use Rattle.dw_fields.specs.declared.fault_code.Code.TheVariants as causes;
-ghost use Rattle.form_values.specs.View.{raw_view};
+ghost use Rattle.form_values.specs.View.{raw_view, widths_of};
 ghost use Rattle.form_values.specs.FormTable.{low_at, middle_at, high_at, direct_at, indirect_at, value_at, value_fault};
 
 use crate::counted::{counted_by_u8, counted_by_u16, counted_by_u32, counted_by_uleb};
 use crate::form;
 use crate::raw::{Raw, Widths};
 use dw_fields::{Code, Cut, Fault};
+use unit_headers::UnitHeader;
 
-/// Reads the value of the attribute that stands next. `implicit` is the number
-/// of the declaration, which is the value of `DW_FORM_implicit_const`. The address size is 2, 4 or
-/// 8.
+/// Reads the value of the attribute that stands next in an entry of this unit. `implicit` is the number
+/// of the declaration, which is the value of `DW_FORM_implicit_const`. The unit's address size is 2, 4
+/// or 8.
 ///
 /// # Errors
 /// The cut is unchanged after each of them.
@@ -24,6 +25,24 @@ use dw_fields::{Code, Cut, Fault};
 /// - `Truncated` at the field that passes the cut's end. A count and the bytes that it counts are two
 ///   fields.
 /// - `LebTooLarge` at the LEB128 whose value is outside 64 bits.
+#[inline]
+pub fn read_value<'f>(
+    cut: &mut Cut<'f>,
+    form: u64,
+    header: &UnitHeader,
+    implicit: i64,
+) -> Result<Raw<'f>, Fault>
+    requires { IsAddressSize header.now.address_size }
+    ensures value { Gives raw_view result (value_at form (widths_of header.now) implicit) cut.old cut.new }
+    ensures forward { OnOk result (cut.old.place ≤ cut.new.place) }
+{
+    read_form(cut, form, Widths::of(header), implicit)
+}
+
+/// The same with given widths, for a value that stands in a line program's header.
+///
+/// # Errors
+/// Those of [`read_value`].
 #[inline]
 #[tactic(auto, unfolding(crate::specs::FormTable::value_at))]
 pub fn read_form<'f>(

@@ -1,0 +1,3 @@
+pub mod Machine
+pub mod Operations
+pub mod Running

@@ -1,0 +1,17 @@
+//! The machine of line programs (DWARF 5, section 6.2): its registers, its operations, and the rows
+//! that a program appends.
+//!
+//! An operation is read (`specs/Operations.antt`) and then done (`specs/Machine.antt`): each step is
+//! by cases of the operation. `rows` runs a program from its first byte to its end. Promised: the
+//! rows, or the first refusal, are those of the definitions. A row takes no memory of its own.
+#![tactic(auto)]
+
+mod machine;
+mod operations;
+mod registers;
+mod running;
+
+pub use machine::{Stepped, step};
+pub use operations::{Operation, read_operation};
+pub use registers::{Program, Row};
+pub use running::{RowsRefusal, rows};

@@ -1,0 +1,88 @@
+//! The registers of the line machine.
+
+ghost use Rattle.std.specs.Prelude.{◌≡◌};
+ghost use Rattle.line_machine.specs.Machine.{cleared, fresh};
+
+/// A row of the line table; the machine's registers have the same fields (DWARF 5, section 6.2.2).
+#[derive(Clone, Copy, Debug, PartialEq, Eq)]
+pub struct Row {
+    /// The address of an instruction, or of its first operation.
+    pub address: u64,
+    /// Which operation of the instruction, on machines that pack several into one.
+    pub op_index: u64,
+    /// The number of the source file.
+    pub file: u64,
+    /// The line in that file; modulo `2^64`.
+    pub line: u64,
+    /// The column in that line; 0 where none is told.
+    pub column: u64,
+    /// The instruction set.
+    pub isa: u64,
+    /// Tells blocks of one line apart.
+    pub discriminator: u64,
+    /// Whether the instruction is a good place for a breakpoint.
+    pub stmt: bool,
+    /// Whether a basic block begins here.
+    pub block: bool,
+    /// Whether a function's prologue ends here.
+    pub prologue_end: bool,
+    /// Whether a function's epilogue begins here.
+    pub epilogue_begin: bool,
+    /// Whether the address is the first behind a sequence of instructions.
+    pub end: bool,
+}
+
+/// What a line program's header tells its machine (DWARF 5, section 6.2.4), and the unit's address
+/// size in bytes.
+#[derive(Clone, Copy, Debug, PartialEq, Eq)]
+pub struct Program {
+    /// The size of the smallest instruction.
+    pub min_length: u8,
+    /// How many operations an instruction has at most.
+    pub max_ops: u8,
+    /// `stmt` at the start of a sequence.
+    pub default_stmt: bool,
+    /// The least advance of a special opcode's line.
+    pub line_base: i8,
+    /// How many advances of the line special opcodes know.
+    pub line_range: u8,
+    /// The number of the first special opcode.
+    pub opcode_base: u8,
+    /// The size of an address.
+    pub address_size: u8,
+}
+
+/// The registers at the start of a sequence.
+#[tactic(auto, unfolding(crate::specs::Machine::fresh))]
+pub(crate) fn fresh(program: &Program) -> Row
+    ensures { result ≡ fresh program.now }
+{
+    Row {
+        address: 0,
+        op_index: 0,
+        file: 1,
+        line: 1,
+        column: 0,
+        isa: 0,
+        discriminator: 0,
+        stmt: program.default_stmt,
+        block: false,
+        prologue_end: false,
+        epilogue_begin: false,
+        end: false,
+    }
+}
+
+/// The registers behind an appended row.
+#[tactic(auto, unfolding(crate::specs::Machine::cleared))]
+pub(crate) fn cleared(registers: &Row) -> Row
+    ensures { result ≡ cleared registers.now }
+{
+    Row {
+        discriminator: 0,
+        block: false,
+        prologue_end: false,
+        epilogue_begin: false,
+        ..*registers
+    }
+}

@@ -1,0 +1,103 @@
+//! A line program run from its first byte to its end.
+
+use std::alloc::{AllocError, Global};
+
+use dw_fields::{Cut, Fault};
+
+use crate::machine::{Stepped, step};
+use crate::operations::read_operation;
+use crate::registers::{Program, Row, fresh};
+
+ghost use Rattle.std.specs.Prelude.{◌≡◌, ◌+◌, ◌≤◌, [], ◌++◌, length, IfOk, OnOk, option_to_list};
+ghost use Rattle.dw_fields.specs.Reading.{Moves, Reads};
+ghost use Rattle.line_machine.specs.Machine.{IsRunnable};
+ghost use Rattle.line_machine.specs.Running.{Runs, line_rows, outcome, stepped_at};
+
+/// Why a line program has no rows.
+#[derive(Clone, Copy, Debug, PartialEq, Eq)]
+pub enum RowsRefusal {
+    /// An operation can't be read.
+    Refused(Fault),
+    /// Memory was wanting.
+    OutOfMemory,
+}
+
+/// How many rows are made room for at once, at most.
+const ROOM: u64 = 65_536;
+
+/// The rows of the program in `cut`, from its place to its end; `lengths` are the header's numbers of
+/// operands, from opcode 1 on.
+///
+/// # Errors
+/// Those of `read_operation`, at the first operation that is refused.
+#[tactic(auto, using(crate::proofs::Turns::rows_start))]
+pub fn rows(
+    alloc: Global,
+    mut cut: Cut<'_>,
+    program: &Program,
+    lengths: &[u8],
+) -> Result<Vec<Row>, RowsRefusal>
+    requires runnable { IsRunnable program.now }
+    requires known { program.now.opcode_base ≤ length lengths.now + 1 }
+    ensures { Runs (λ v. v.items) result (line_rows program.now lengths.now cut.entry) }
+{
+    let left = cut.left();
+    let mut rows = match room(alloc, left) {
+        Ok(rows) => rows,
+        Err(_) => return Err(RowsRefusal::OutOfMemory),
+    };
+    let mut registers = fresh(program);
+    'program: for _turn in 0..left {
+        if cut.left() == 0 {
+            return Ok(rows);
+        }
+        let stepped = match stepped(&mut cut, program, lengths, &registers) {
+            Ok(stepped) => stepped,
+            Err(fault) => return Err(RowsRefusal::Refused(fault)),
+        };
+        registers = stepped.registers;
+        match keep(&mut rows, stepped.row) {
+            Ok(()) => {}
+            Err(_) => return Err(RowsRefusal::OutOfMemory),
+        }
+    }
+    Ok(rows)
+}
+
+/// No rows, with room for those of so many bytes: most rows take a few bytes.
+fn room(alloc: Global, bytes: u64) -> Result<Vec<Row>, AllocError>
+    ensures { IfOk result (λ v. v.items ≡ []) }
+{
+    Vec::with_capacity(alloc, (bytes / 4).min(ROOM) as usize)
+}
+
+/// Reads an operation and does it.
+#[tactic(auto, unfolding(crate::specs::Running::stepped_at))]
+fn stepped(
+    cut: &mut Cut<'_>,
+    program: &Program,
+    lengths: &[u8],
+    registers: &Row,
+) -> Result<Stepped, Fault>
+    requires runnable { IsRunnable program.now }
+    requires known { program.now.opcode_base ≤ length lengths.now + 1 }
+    ensures field { Reads outcome result (stepped_at program.now lengths.now registers.now) cut.old cut.new }
+    ensures moves { OnOk result (Moves 1 cut.old cut.new) }
+{
+    match read_operation(cut, program, lengths) {
+        Ok(operation) => Ok(step(program, registers, operation)),
+        Err(fault) => Err(fault),
+    }
+}
+
+fn keep(rows: &mut Vec<Row>, row: Option<Row>) -> Result<(), AllocError>
+    ensures { OnOk result (rows.new.items ≡ rows.old.items ++ option_to_list row) }
+{
+    match row {
+        Some(row) => match rows.push(row) {
+            Ok(()) => Ok(()),
+            Err(_) => Err(AllocError),
+        },
+        None => Ok(()),
+    }
+}

@@ -1,9 +1,8 @@
 -- Laws of the operands that are passed over.
-use Rattle.std.proofs.Common.{◌≡◌, ℕ, zero, suc, ◌+◌, ◌≤◌, Result, Ok, Err, refl, sym, ap, ◌∙◌}
+use Rattle.std.proofs.Common.{◌≡◌, ℕ, suc, Ok, Err, refl, sym, ap, ◌∙◌}
 use Rattle.dw_fields.specs.declared.fault_code.Fault.{Fault}
 use Rattle.dw_fields.specs.Span.{Span, at}
-use Rattle.dw_fields.specs.Reading.{◌>>=◌, uleb_at}
-use Rattle.line_machine.specs.declared.operations.Operation.{Operation}
+use Rattle.dw_fields.specs.Reading.{uleb_at}
 use Rattle.line_machine.specs.declared.operations.Operation.TheVariants as ops
 use Rattle.line_machine.specs.Operations.{passed_over}
 

@@ -1,8 +1,8 @@
 -- Laws of the turns of a line program.
-use Rattle.std.proofs.Common.{◌≡◌, ℕ, zero, suc, ◌+◌, ◌-◌, ◌<◌, ◌≤◌, List, [], ◌∷◌, ◌++◌, Result, Ok, Err, refl, sym, ap, ◌∙◌, arith}
+use Rattle.std.proofs.Common.{◌≡◌, ℕ, suc, ◌-◌, ◌<◌, List, [], ◌++◌, Result, Ok, Err, refl, ap, ◌∙◌}
 use Rattle.dw_fields.specs.declared.fault_code.Fault.{Fault}
 use Rattle.dw_fields.specs.Span.{Span, at}
-use Rattle.dw_fields.specs.Walk.{walk, ahead, walk_next, walk_fails, walk_ends}
+use Rattle.dw_fields.specs.Walk.{walk, ahead, walk_next}
 use Rattle.line_machine.specs.declared.registers.Row.{Row}
 use Rattle.line_machine.specs.declared.registers.Program.{Program}
 use Rattle.line_machine.specs.Machine.{fresh}

@@ -1,5 +1,5 @@
 -- The line machine, one step by cases of the operation: DWARF 5, sections 6.2.2 and 6.2.5.
-use Rattle.std.specs.Prelude.{ℕ, Bool, true, false, not, ◌+◌, ◌-◌, ◌*◌, ◌/◌, ◌%◌, ◌^◌, ◌<◌, Option, Some, None}
+use Rattle.std.specs.Prelude.{ℕ, true, false, not, ◌+◌, ◌-◌, ◌*◌, ◌/◌, ◌%◌, ◌^◌, ◌<◌, Some, None}
 use Rattle.std.specs.Int.{cast_unsigned, w64}
 use Rattle.dw_fields.specs.Reading.{IsAddressSize}
 use Rattle.line_machine.specs.declared.registers.Row.{Row}
@@ -18,9 +18,19 @@ pub record IsRunnable (h : Program) : Type 0 where
 -- The registers at the start of a sequence.
 unfoldable pub fresh : Program → Row
 fresh h = record {
-    address = 0; op_index = 0; file = 1; line = 1; column = 0; isa = 0; discriminator = 0; stmt = h.default_stmt;
-    block = false; prologue_end = false; epilogue_begin = false; end = false
-  }
+  address = 0;
+  op_index = 0;
+  file = 1;
+  line = 1;
+  column = 0;
+  isa = 0;
+  discriminator = 0;
+  stmt = h.default_stmt;
+  block = false;
+  prologue_end = false;
+  epilogue_begin = false;
+  end = false;
+}
 
 -- The registers behind a row that copy or a special opcode appended.
 unfoldable pub cleared : Row → Row
@@ -33,9 +43,9 @@ wrapped size address = address % 2 ^ (8 * size)
 -- The operation advance. Its sums are unbounded.
 unfoldable pub advanced : Program → Row → ℕ → Row
 advanced h r n = record r {
-    address = wrapped h.address_size (r.address + h.min_length * ((r.op_index + n) / h.max_ops));
-    op_index = (r.op_index + n) % h.max_ops
-  }
+  address = wrapped h.address_size (r.address + h.min_length * ((r.op_index + n) / h.max_ops));
+  op_index = (r.op_index + n) % h.max_ops;
+}
 
 -- An advance of the address alone, in bytes.
 unfoldable pub moved : Program → Row → ℕ → Row

@@ -4,7 +4,7 @@ use Rattle.dw_fields.specs.declared.fault_code.Fault.{Fault}
 use Rattle.dw_fields.specs.declared.fault_code.Code.TheVariants.{Truncated, LineTruncated, ExtendedLength}
 use Rattle.dw_fields.specs.Codes.{fault, is_same_code}
 use Rattle.dw_fields.specs.Span.{Span, at, until}
-use Rattle.dw_fields.specs.Reading.{Reader, ◌>>=◌, ◌>>◌, refuse, renamed, number_at, uleb_at, sleb_at}
+use Rattle.dw_fields.specs.Reading.{Reader, ◌>>=◌, renamed, number_at, uleb_at, sleb_at}
 use Rattle.line_machine.specs.declared.registers.Program.{Program}
 use Rattle.line_machine.specs.declared.operations.Operation.{Operation}
 use Rattle.line_machine.specs.declared.operations.Operation.TheVariants as ops
@@ -63,27 +63,27 @@ unfoldable pub within_at : ℕ → Reader Operation
 within_at place s = do
   kind ← in_operation place (number_at 1 s)
   (if kind.0 == 1 then Ok (ops.EndSequence, kind.1)
-   else (if kind.0 == 2 then set_address_at place (at s kind.1)
-   else (if kind.0 == 4 then in_operation place (with ops.SetDiscriminator (uleb_at (at s kind.1)))
-   else Ok (ops.Nothing, kind.1))))
+      else (if kind.0 == 2 then set_address_at place (at s kind.1)
+      else (if kind.0 == 4 then in_operation place (with ops.SetDiscriminator (uleb_at (at s kind.1)))
+      else Ok (ops.Nothing, kind.1))))
 
 -- An extended operation: its length, then so many bytes. What its operands leave over is passed over.
 unfoldable pub extended_at : Reader Operation
 extended_at s = do
   count ← in_program (uleb_at s)
   (if count.0 == 0 then Err (fault ExtendedLength s.place)
-   else (if nat_lt s.end (count.1 + count.0) then Err (fault LineTruncated count.1)
-   else (do
-     operation ← within_at s.place (until (at s count.1) (count.1 + count.0))
-     Ok (operation.0, count.1 + count.0))))
+      else (if nat_lt s.end (count.1 + count.0) then Err (fault LineTruncated count.1)
+      else (do
+        operation ← within_at s.place (until (at s count.1) (count.1 + count.0))
+        Ok (operation.0, count.1 + count.0))))
 
 -- An operation. A number at or above the opcode base is always special.
 unfoldable pub operation_at : Program → List ℕ → Reader Operation
 operation_at h lengths s = do
   opcode ← in_program (number_at 1 s)
   (if nat_le h.opcode_base opcode.0 then Ok (ops.Special (opcode.0 - h.opcode_base), opcode.1)
-   else (if opcode.0 == 0 then extended_at (at s opcode.1)
-   else in_program (standard_at lengths opcode.0 (at s opcode.1))))
+      else (if opcode.0 == 0 then extended_at (at s opcode.1)
+      else in_program (standard_at lengths opcode.0 (at s opcode.1))))
 
 -- A cut that went on, or stayed, inside its end.
 pub record Onward (old new : Span) : Type 0 where

@@ -1,6 +1,6 @@
 -- The rows of a line program: DWARF 5, section 6.2.5. Its operations are done one after another, from
 -- its first byte to its end.
-use Rattle.std.specs.Prelude.{ℕ, ◌-◌, ◌≡◌, List, Result, Ok, Err, option_to_list}
+use Rattle.std.specs.Prelude.{ℕ, ◌-◌, List, Result, Ok, option_to_list}
 use Rattle.dw_fields.specs.declared.fault_code.Fault.{Fault}
 use Rattle.dw_fields.specs.Span.{Span}
 use Rattle.dw_fields.specs.Reading.{Reader, ◌>>=◌}
@@ -8,8 +8,6 @@ use Rattle.dw_fields.specs.Walk.{walk}
 use Rattle.line_machine.specs.declared.registers.Row.{Row}
 use Rattle.line_machine.specs.declared.registers.Program.{Program}
 use Rattle.line_machine.specs.declared.machine.Stepped.{Stepped}
-use Rattle.line_machine.specs.declared.running.RowsRefusal.{RowsRefusal}
-use Rattle.line_machine.specs.declared.running.RowsRefusal.TheVariants as refusals
 use Rattle.line_machine.specs.Machine.{fresh, line_step}
 use Rattle.line_machine.specs.Operations.{operation_at}
 
@@ -27,9 +25,3 @@ stepped_at h lengths registers s = do
 -- least one byte.
 unfoldable pub line_rows : Program → List ℕ → Span → Result (List Row) Fault
 line_rows h lengths s = walk (stepped_at h lengths) (s.end - s.place) (fresh h) s
-
--- An answer with want of memory.
-abbrev pub Runs : {X Y : Type 0} → (X → Y) → Result X RowsRefusal → Result Y Fault → Type 0
-Runs view (Ok rows) wanted = wanted ≡ Ok (view rows)
-Runs view (Err (refusals.Refused f)) wanted = wanted ≡ Err f
-Runs view (Err refusals.OutOfMemory) wanted = Unit {0}

@@ -1,11 +1,11 @@
 //! What each operation does.
 
-use crate::operations::Operation;
-use crate::registers::{Program, Row, cleared, fresh};
-
 ghost use Rattle.std.specs.Prelude.{◌≡◌, ℕ, ◌%◌, ◌*◌, ◌^◌, ◌<◌};
 ghost use Rattle.dw_fields.specs.Reading.{IsAddressSize};
 ghost use Rattle.line_machine.specs.Machine.{IsRunnable, advanced, line_step, moved, special, wrapped};
+
+use crate::operations::Operation;
+use crate::registers::{Program, Row, cleared, fresh};
 
 /// The registers behind an operation, and the row that it appended.
 #[derive(Clone, Copy, Debug, PartialEq, Eq)]

@@ -1,12 +1,11 @@
 //! The operations of a line program as they stand in its bytes.
 
-use dw_fields::{Code, Cut, Fault, renamed};
-
-use crate::registers::Program;
-
 ghost use Rattle.std.specs.Prelude.{◌≡◌, ℕ, ◌+◌, ◌-◌, ◌<◌, ◌≤◌, length, OnOk};
 ghost use Rattle.dw_fields.specs.Reading.{Moves, Reads, number_at};
 ghost use Rattle.line_machine.specs.Operations.{Onward, extended_at, in_operation, in_program, operation_at, overlong, passed_over, set_address_at, standard_at, within_at};
+
+use crate::registers::Program;
+use dw_fields::{Code, Cut, Fault, renamed};
 
 /// An operation with its operands.
 #[derive(Clone, Copy, Debug, PartialEq, Eq)]
@@ -48,7 +47,11 @@ pub enum Operation {
 ///   where an address operand isn't 2, 4 or 8 bytes.
 /// - `LebTooLarge` at a LEB128 outside 64 bits.
 #[tactic(auto, unfolding(crate::specs::Operations::operation_at))]
-pub fn read_operation(cut: &mut Cut<'_>, program: &Program, lengths: &[u8]) -> Result<Operation, Fault>
+pub fn read_operation(
+    cut: &mut Cut<'_>,
+    program: &Program,
+    lengths: &[u8],
+) -> Result<Operation, Fault>
     requires { program.now.opcode_base ≤ length lengths.now + 1 }
     ensures field { Reads (λ x. x) result (operation_at program.now lengths.now) cut.old cut.new }
     ensures moves { OnOk result (Moves 1 cut.old cut.new) }
@@ -167,10 +170,7 @@ fn within(cut: &mut Cut<'_>, place: u64) -> Result<Operation, Fault>
     match kind {
         1 => Ok(Operation::EndSequence),
         2 => set_address(cut, place),
-        4 => Ok(Operation::SetDiscriminator(in_operation(
-            place,
-            cut.uleb(),
-        )?)),
+        4 => Ok(Operation::SetDiscriminator(in_operation(place, cut.uleb())?)),
         _ => Ok(Operation::Nothing),
     }
 }

@@ -1,26 +1,17 @@
 //! A line program run from its first byte to its end.
 
-use std::alloc::{AllocError, Global};
-
-use dw_fields::{Cut, Fault};
+ghost use Rattle.std.specs.Prelude.{◌≡◌, ◌+◌, ◌≤◌, [], ◌++◌, length, IfOk, OnOk, option_to_list};
+ghost use Rattle.dw_fields.specs.Reading.{Moves, Reads};
+ghost use Rattle.unit_headers.specs.Refusals.{Answers};
+ghost use Rattle.line_machine.specs.Machine.{IsRunnable};
+ghost use Rattle.line_machine.specs.Running.{line_rows, outcome, stepped_at};
 
 use crate::machine::{Stepped, step};
 use crate::operations::read_operation;
 use crate::registers::{Program, Row, fresh};
-
-ghost use Rattle.std.specs.Prelude.{◌≡◌, ◌+◌, ◌≤◌, [], ◌++◌, length, IfOk, OnOk, option_to_list};
-ghost use Rattle.dw_fields.specs.Reading.{Moves, Reads};
-ghost use Rattle.line_machine.specs.Machine.{IsRunnable};
-ghost use Rattle.line_machine.specs.Running.{Runs, line_rows, outcome, stepped_at};
-
-/// Why a line program has no rows.
-#[derive(Clone, Copy, Debug, PartialEq, Eq)]
-pub enum RowsRefusal {
-    /// An operation can't be read.
-    Refused(Fault),
-    /// Memory was wanting.
-    OutOfMemory,
-}
+use dw_fields::{Cut, Fault};
+use std::alloc::{AllocError, Global};
+use unit_headers::UnitRefusal;
 
 /// How many rows are made room for at once, at most.
 const ROOM: u64 = 65_536;
@@ -36,15 +27,15 @@ pub fn rows(
     mut cut: Cut<'_>,
     program: &Program,
     lengths: &[u8],
-) -> Result<Vec<Row>, RowsRefusal>
+) -> Result<Vec<Row>, UnitRefusal>
     requires runnable { IsRunnable program.now }
     requires known { program.now.opcode_base ≤ length lengths.now + 1 }
-    ensures { Runs (λ v. v.items) result (line_rows program.now lengths.now cut.entry) }
+    ensures { Answers (λ v. v.items) result (line_rows program.now lengths.now cut.entry) }
 {
     let left = cut.left();
     let mut rows = match room(alloc, left) {
         Ok(rows) => rows,
-        Err(_) => return Err(RowsRefusal::OutOfMemory),
+        Err(_) => return Err(UnitRefusal::OutOfMemory),
     };
     let mut registers = fresh(program);
     'program: for _turn in 0..left {
@@ -53,12 +44,12 @@ pub fn rows(
         }
         let stepped = match stepped(&mut cut, program, lengths, &registers) {
             Ok(stepped) => stepped,
-            Err(fault) => return Err(RowsRefusal::Refused(fault)),
+            Err(fault) => return Err(UnitRefusal::Refused(fault)),
         };
         registers = stepped.registers;
         match keep(&mut rows, stepped.row) {
             Ok(()) => {}
-            Err(_) => return Err(RowsRefusal::OutOfMemory),
+            Err(_) => return Err(UnitRefusal::OutOfMemory),
         }
     }
     Ok(rows)

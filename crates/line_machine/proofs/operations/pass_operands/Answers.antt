@@ -1,4 +1,4 @@
-use Rattle.std.proofs.Common.{◌≡◌, ◌+◌, ◌-◌, sym, ap, ◌∙◌, arith}
+use Rattle.std.proofs.Common.{◌+◌, ◌-◌, sym, ap, ◌∙◌, arith}
 use Rattle.dw_fields.specs.Span.{Span}
 use Rattle.line_machine.proofs.Passing.{passed_next, passed_fails, passed_none, at_again}
 use Rattle.line_machine.proofs.operations.pass_operands.Goals as goal
@@ -9,12 +9,12 @@ returns-in-Err-clause-field c =
 
 pub loop-turn-preserved : goal.loop-turn-preserved
 loop-turn-preserved c = record {
-    stands = at_again c.args.cut.now c.loop-turn.cut c.uleb.new.self c.loop-turn.invariant.stands c.in-Ok.ensures.field.1;
-    forward = omega (arith, c.in-Ok.ensures.moves.forward);
-    inside = λ h. omega (arith, c.in-Ok.ensures.moves.inside, ap (λ (s : Span). s.end) c.loop-turn.invariant.stands);
-    walk = passed_next (c.args.count - c.loop-turn._turn) (c.args.count - (c.loop-turn._turn + 1)) c.loop-turn.cut c.uleb.new.self c.in-Ok.field-0 (omega arith)
+  stands = at_again c.args.cut.now c.loop-turn.cut c.uleb.new.self c.loop-turn.invariant.stands c.in-Ok.ensures.field.1;
+  forward = omega (arith, c.in-Ok.ensures.moves.forward);
+  inside = λ h. omega (arith, c.in-Ok.ensures.moves.inside, ap (λ (s : Span). s.end) c.loop-turn.invariant.stands);
+  walk = passed_next (c.args.count - c.loop-turn._turn) (c.args.count - (c.loop-turn._turn + 1)) c.loop-turn.cut c.uleb.new.self c.in-Ok.field-0 (omega arith)
       c.in-Ok.ensures.field.0 c.in-Ok.ensures.field.1 ∙ c.loop-turn.invariant.walk;
-  }
+}
 
 pub returns-clause-field : goal.returns-clause-field
 returns-clause-field c =

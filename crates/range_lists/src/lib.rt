@@ -1,0 +1,18 @@
+//! Range lists and location lists: `.debug_rnglists` and `.debug_loclists` (DWARF 5, sections 2.6.2,
+//! 2.17.3, 7.7.3 and 7.25).
+//!
+//! [`read_ranges`] and [`read_locations`] read one list from its offset to its end. The list, and the
+//! first refusal in the order of reading, are exact: they are the definitions of `specs/Lists.antt`.
+//! An index in a list is resolved as soon as it is read.
+#![tactic(auto)]
+
+mod bounds;
+mod context;
+mod kinds;
+mod locations;
+mod operands;
+mod ranges;
+
+pub use bounds::Range;
+pub use locations::{Location, read_locations};
+pub use ranges::read_ranges;

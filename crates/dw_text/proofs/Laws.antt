@@ -4,18 +4,15 @@ use Rattle.std.proofs.lemmas.List.{take_more, take_more_set, length-set, get_or-
 use Rattle.std.proofs.Common.{ltb}
 use Rattle.std.proofs.lemmas.Bool.{false≢true}
 use Rattle.std.proofs.lemmas.Bool.Decides.{nat_tests}
-use Rattle.std.specs.Prelude.{Result, Ok, Err}
+use Rattle.std.specs.Prelude.{Result}
 use Rattle.std.specs.Fmt.{digit_glyph}
 use Rattle.std.proofs.Math.IntN.{ℤ, pos, negsuc, nat_abs}
 use Rattle.std.specs.Int.Signed.{lt_z}
+use Rattle.dw_text.specs.Laws.{adds_then}
 use Rattle.dw_text.specs.Added.{Adds, labelled}
 use Rattle.dw_text.specs.Numbers.{signed, decimal}
 use Rattle.dw_text.specs.Bytes.{hex_bytes}
 use Rattle.dw_text.specs.Escapes.{is_plain, escape, escaped}
-
-pub adds_then : {E : Type 0} (r : Result (Unit {0}) E) (old mid new a b : List ℕ) → mid ≡ old ++ a → Adds r mid new b → Adds r old new (a ++ b)
-adds_then (Ok u) old mid new a b e p = p ∙ ap (λ x. x ++ b) e ∙ append_assoc old a b
-adds_then (Err f) old mid new a b e p = (a ++ p.0, p.1 ∙ ap (λ x. x ++ p.0) e ∙ append_assoc old a p.0)
 
 pub hex_bytes_parts : (n : ℕ) (bytes : List ℕ) → hex_bytes bytes ≡ hex_bytes (take n bytes) ++ hex_bytes (drop n bytes)
 unfolding hex_bytes

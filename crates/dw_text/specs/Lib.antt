@@ -2,3 +2,4 @@ pub mod Added
 pub mod Numbers
 pub mod Escapes
 pub mod Bytes
+pub mod Laws

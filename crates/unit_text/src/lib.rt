@@ -1,11 +1,15 @@
 //! The texts of units, sections and abbreviation tables, appended to a list of bytes.
 //!
-//! Each call appends exactly its text. After any refusal the list is as it was.
+//! Each call appends exactly its text. After any refusal the list is as it was; only the text of abbreviation tables stays
+//! up to the fault in them.
 #![tactic(auto)]
 
+mod declaration_text;
 mod pieces;
 mod section_line;
+mod tables;
 mod unit_line;
 
 pub use section_line::write_section;
+pub use tables::write_tables;
 pub use unit_line::write_unit_line;

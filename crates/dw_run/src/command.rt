@@ -1,0 +1,37 @@
+//! The commands, and their names on a command line.
+
+ghost use Rattle.std.specs.Prelude.{◌≡◌};
+ghost use Rattle.dw_run.specs.Words.{command_named};
+
+/// What a command line asks for.
+#[derive(Clone, Copy, Debug, PartialEq, Eq)]
+pub enum Command {
+    /// One line per unit.
+    Units,
+    /// One line per section of the file.
+    Sections,
+    /// The entries and attributes of every unit.
+    Dump,
+    /// All abbreviation tables.
+    Abbrev,
+    /// The line table of every unit that has one.
+    Lines,
+    /// The range and location lists of every entry.
+    Ranges,
+}
+
+/// The command of a name, where there is one.
+#[tactic(auto, unfolding(crate::specs::Words::command_named))]
+pub fn find_command(name: &str) -> Option<Command>
+    ensures { result ≡ command_named name.now }
+{
+    match name {
+        "units" => Some(Command::Units),
+        "sections" => Some(Command::Sections),
+        "dump" => Some(Command::Dump),
+        "abbrev" => Some(Command::Abbrev),
+        "lines" => Some(Command::Lines),
+        "ranges" => Some(Command::Ranges),
+        _ => None,
+    }
+}

@@ -1,0 +1,72 @@
+//! The commands of a line.
+
+use std::alloc::Global;
+use std::io::{self, Write};
+
+use dw_outside::{MemorySink, MemorySource};
+use dw_run::{ElfBuilder, run};
+
+use crate::hex::bytes_of;
+use crate::rows::Row;
+
+/// Does what the line says.
+pub fn obey<R: Print + AllocGlobal>(rt: &R, row: &mut Row, line: &str) -> io::Result<()> {
+    let alloc = rt.alloc();
+    let (command, rest) = line.split_once(' ').unwrap_or((line, ""));
+    match command {
+        "#" => rt.println(line)?,
+        "elf" => row.file = elf_file(alloc, rest)?,
+        "raw" => row.file = bytes_of(alloc, rest)?,
+        "cut" => row.cut(rest.parse::<usize>().unwrap_or(0)),
+        "set" => {
+            let (place, hex) = rest.split_once(' ').unwrap_or(("", ""));
+            let bytes = bytes_of(alloc, hex)?;
+            row.set(place.parse::<usize>().unwrap_or(0), bytes.as_slice());
+        }
+        "fail" => {
+            let (name, call) = rest.split_once(' ').unwrap_or(("", ""));
+            row.fail(name, call.parse::<u64>().unwrap_or(0))?;
+        }
+        "run" => answer(rt, row, rest)?,
+        _ => {}
+    }
+    Ok(())
+}
+
+fn elf_file(alloc: Global, sections: &str) -> io::Result<Vec<u8>> {
+    let mut builder = ElfBuilder::new(alloc);
+    for section in sections.split_whitespace() {
+        let (name, hex) = section.split_once('=').unwrap_or((section, ""));
+        let bytes = bytes_of(alloc, hex)?;
+        builder.add(name, bytes.as_slice())?;
+    }
+    Ok(builder.finish()?)
+}
+
+fn words_of(alloc: Global, line: &str) -> io::Result<Vec<String>> {
+    let mut words = Vec::new(alloc);
+    for word in line.split_whitespace() {
+        words.push(String::from_str(alloc, word)?)?;
+    }
+    Ok(words)
+}
+
+fn answer<R: Print + AllocGlobal>(rt: &R, row: &mut Row, line: &str) -> io::Result<()> {
+    let alloc = rt.alloc();
+    let words = words_of(alloc, line)?;
+    let name = String::from_str(alloc, "F")?;
+    let mut source = MemorySource::new(name, row.file.clone()?, row.failing_source.clone()?);
+    let mut out = MemorySink::new(alloc, row.failing_out.clone()?);
+    let mut err = MemorySink::new(alloc, row.failing_err.clone()?);
+    let end = run(alloc, words.as_slice(), &mut source, &mut out, &mut err);
+    row.forgive();
+    print_bytes(rt, out.bytes())?;
+    print_bytes(rt, err.bytes())?;
+    let status = end.status;
+    println!(rt; "status {status}")
+}
+
+fn print_bytes<R: Print>(rt: &R, bytes: &[u8]) -> io::Result<()> {
+    let mut writer = io::writer(rt);
+    writer.write_all(bytes)
+}

@@ -1,0 +1,21 @@
+//! Runs the top call on small files that standard input spells, and prints what each call answers.
+//!
+//! A line is a command: `# TITLE` is printed; `elf NAME=HEX ..` makes a file of these sections; `raw HEX`
+//! takes the bytes as they are; `cut N` keeps the first N bytes of the file; `set N HEX` overwrites from
+//! byte N on; `fail NAME CALL` lets that call of the source, of out or of err fail in the next run; and
+//! `run WORD ..` runs the top call, where the file is named F, and prints out, err and the status.
+#![tactic(auto)]
+
+mod commands;
+mod hex;
+mod rows;
+
+use std::io;
+
+fn main(rt: HostRuntime) -> io::Result<()> {
+    let mut row = rows::Row::new(rt.alloc());
+    for line in rt.lines(rt.alloc()) {
+        commands::obey(&rt, &mut row, line?.as_str())?;
+    }
+    Ok(())
+}

@@ -2,6 +2,9 @@
 #![tactic(auto)]
 
 mod command;
+mod pieces;
+mod refusals;
+mod unit_texts;
 mod words;
 
 pub use words::{Request, read_words};

@@ -1,0 +1,8 @@
+//! stand-in
+
+use dw_fields::Fault;
+
+pub enum UnitRefusal {
+    Refused(Fault),
+    OutOfMemory,
+}

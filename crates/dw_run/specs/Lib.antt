@@ -1,3 +1,5 @@
 pub mod Told
 pub mod Words
+pub mod Endings
 pub mod Pieces
+pub mod RefusalLines

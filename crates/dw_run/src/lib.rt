@@ -2,7 +2,9 @@
 #![tactic(auto)]
 
 mod command;
+mod endings;
 mod pieces;
+mod refusal_lines;
 mod refusals;
 mod unit_texts;
 mod words;

@@ -1,0 +1,48 @@
+//! How a run ends: its status, and the line that it leaves on standard error.
+
+ghost use Rattle.std.specs.Prelude.{◌≡◌, ◌≢◌, ◌<◌, ◌≤◌, ◌⊎◌};
+ghost use Rattle.dw_outside.specs.Faults.{Rose};
+ghost use Rattle.dw_outside.specs.Gains.{Gains, GainsPart};
+ghost use Rattle.dw_run.specs.Endings.{EndsWith, EndsRefused};
+
+use std::alloc::Global;
+
+use dw_outside::{Sink, WriteStop, write_all};
+
+use crate::refusal_lines::line_of;
+use crate::refusals::Refusal;
+
+/// Nothing is refused.
+pub(crate) const DONE: u8 = 0;
+/// The file is refused.
+pub(crate) const REFUSED: u8 = 1;
+/// The words have no meaning.
+pub(crate) const NO_MEANING: u8 = 2;
+/// The file could not be read.
+pub(crate) const NOT_READ: u8 = 3;
+/// A text could not be written.
+pub(crate) const NOT_WRITTEN: u8 = 4;
+/// Want of memory.
+pub(crate) const NO_MEMORY: u8 = 5;
+
+/// Writes the line, and answers the status; or 4 where it can't be written, and 5 where that wants memory.
+pub(crate) fn end_with<E: Sink>(err: &mut E, line: &[u8], status: u8) -> u8
+    requires { status ≢ 4 }
+    ensures { EndsWith line.now status result (E.held err.old) (E.held err.new) (E.faults err.old) (E.faults err.new) }
+{
+    match write_all(err, line) {
+        Ok(()) => status,
+        Err(WriteStop::Failed) => NOT_WRITTEN,
+        Err(WriteStop::OutOfMemory) => NO_MEMORY,
+    }
+}
+
+/// Writes the line of a refusal, and answers 1.
+pub(crate) fn end_refused<E: Sink>(alloc: Global, err: &mut E, refusal: &Refusal) -> u8
+    ensures { EndsRefused refusal.now result (E.held err.old) (E.held err.new) (E.faults err.old) (E.faults err.new) }
+{
+    match line_of(alloc, refusal) {
+        Ok(line) => end_with(err, line.as_slice(), REFUSED),
+        Err(_) => end_with(err, b"dwtool: out of memory\n", NO_MEMORY),
+    }
+}

@@ -1,5 +1,7 @@
+pub mod Commands
 pub mod Told
 pub mod Words
 pub mod Endings
+pub mod Output
 pub mod Pieces
 pub mod RefusalLines

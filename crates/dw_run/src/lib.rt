@@ -4,9 +4,11 @@
 mod command;
 mod endings;
 mod pieces;
+mod program;
 mod refusal_lines;
 mod refusals;
 mod unit_texts;
 mod words;
 
-pub use words::{Request, read_words};
+pub use command::Command;
+pub use program::{RunEnd, run};

@@ -1,0 +1,16 @@
+use Rattle.dw_run.proofs.Ended.{meets_whole, part_of_whole, no_part}
+use Rattle.dw_run.proofs.program.answer.Goals as goal
+
+pub returns-in-Ok-clause-output : goal.returns-in-Ok-clause-output
+returns-in-Ok-clause-output g c = λ below.
+    meets_whole _ _ _ _ _ _ _ _ _ _ _ _ _ c.as_slice.ensures.value c.in-Ok.ensures.whole c.tell_and_end.ensures below
+
+pub returns-in-Ok-clause-prefix : goal.returns-in-Ok-clause-prefix
+returns-in-Ok-clause-prefix g c =
+    part_of_whole _ _ _ _ _ _ _ _ _ _ _ _ _ c.as_slice.ensures.value c.in-Ok.ensures.whole c.tell_and_end.ensures
+
+pub returns-in-Err-Failed-clause-prefix : goal.returns-in-Err-Failed-clause-prefix
+returns-in-Err-Failed-clause-prefix g c = no_part _ _ _
+
+pub returns-in-Err-OutOfMemory-clause-prefix : goal.returns-in-Err-OutOfMemory-clause-prefix
+returns-in-Err-OutOfMemory-clause-prefix g c = no_part _ _ _

@@ -1,0 +1,67 @@
+-- What the top call gives: the status, the bytes on standard output and the line on standard error, for
+-- words and for what each name holds.
+use Rattle.std.specs.Prelude.{◌≡◌, ℕ, ◌<◌, ◌≤◌, ◌⊎◌, List, [], ◌∷◌, ◌++◌, Option, Some, None, Result, Ok, Err, codes, option_map}
+use Rattle.dw_outside.specs.Faults.{Rose}
+use Rattle.dw_outside.specs.Gains.{Gains, GainsPart}
+use Rattle.elf_sections.specs.Names.{elf_of}
+use Rattle.elf_sections.specs.declared.refusals.ElfRefusal.{ElfRefusal}
+use Rattle.elf_sections.specs.Rows.{ElfView}
+use Rattle.dw_run.specs.declared.command.Command.{Command}
+use Rattle.dw_run.specs.declared.refusals.Refusal.{Refusal}
+use Rattle.dw_run.specs.declared.refusals.Refusal.TheVariants as refusals
+use Rattle.dw_run.specs.Commands.{told_of_elf}
+use Rattle.dw_run.specs.Endings.{line}
+use Rattle.dw_run.specs.RefusalLines.{refusal_line}
+use Rattle.dw_run.specs.Told.{Told}
+use Rattle.dw_run.specs.Words.{RequestView, meaning_of}
+
+pub record Output : Type 0 where
+  pub status : ℕ
+  pub out : List ℕ
+  pub err : List ℕ
+
+-- what a command tells of the sections of a file, or the refusal of its section table
+abbrev pub told_of_table : Command → Result ElfView ElfRefusal → Told
+told_of_table command (Ok elf) = told_of_elf command elf
+told_of_table command (Err refusal) = record { text = []; refusal = Some (refusals.File refusal) }
+
+-- what a command tells of a file
+unfoldable pub told_of : Command → List ℕ → Told
+told_of command file = told_of_table command (elf_of file)
+
+abbrev pub status_of : Option Refusal → ℕ
+status_of None = 0
+status_of (Some refusal) = 1
+
+abbrev pub err_of : Option Refusal → List ℕ
+err_of None = []
+err_of (Some refusal) = refusal_line refusal
+
+abbrev pub output_of_told : Told → Output
+output_of_told told = record { status = status_of told.refusal; out = told.text; err = err_of told.refusal }
+
+abbrev pub misunderstood : Output
+misunderstood = record { status = 2; out = []; err = line (codes "dwtool: words not understood") }
+
+abbrev pub output_of_request : Option RequestView → (List ℕ → Option (List ℕ)) → Option Output
+output_of_request None holds = Some misunderstood
+output_of_request (Some request) holds = option_map (λ file. output_of_told (told_of request.command file)) (holds request.file)
+
+-- the output; none where the source doesn't tell what the name holds
+abbrev pub output_of : List (List ℕ) → (List ℕ → Option (List ℕ)) → Option Output
+output_of words holds = output_of_request (meaning_of words) holds
+
+-- the status is the output's, and both sinks gained its bytes
+pub record Meets (o : Output) (status : ℕ) (out0 out1 err0 err1 : Option (List ℕ)) : Type 0 where
+  pub status_is : status ≡ o.status
+  pub on_out : Gains out0 out1 o.out
+  pub on_err : Gains err0 err1 o.err
+
+-- How a command on a file ended: with what it tells, or because a sink failed (4), or for want of memory (5).
+pub record Ends (told : Told) (status : ℕ) (out0 out1 err0 err1 : Option (List ℕ)) (out_faults0 out_faults1 err_faults0 err_faults1 : ℕ) : Type 0 where
+  pub answers : (status < 2) ⊎ (status ≡ 4) ⊎ (status ≡ 5)
+  pub whole : status < 2 → Meets (output_of_told told) status out0 out1 err0 err1
+  pub part : GainsPart out0 out1 told.text
+  pub failed : status ≡ 4 → Rose out_faults0 out_faults1 ⊎ Rose err_faults0 err_faults1
+  pub later_out : out_faults0 ≤ out_faults1
+  pub later_err : err_faults0 ≤ err_faults1

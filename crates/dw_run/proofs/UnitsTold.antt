@@ -6,7 +6,7 @@ use Rattle.dw_outside.specs.GainsLaws.{Gains-nothing, Gains-then, GainsPart-then
 use Rattle.dw_outside.specs.declared.stops.WriteStop.{WriteStop}
 use Rattle.dw_run.specs.declared.refusals.Refusal.{Refusal}
 use Rattle.dw_run.specs.declared.refusals.Refusal.TheVariants as refusals
-use Rattle.dw_run.specs.Pieces.{Text, Gained}
+use Rattle.unit_text.specs.Pieces.{Text, Gained}
 use Rattle.dw_run.specs.Told.{Told, Tells, told_at, before, whole, units_told}
 
 abbrev Answer : Type 0

@@ -3,5 +3,4 @@ pub mod Told
 pub mod Words
 pub mod Endings
 pub mod Output
-pub mod Pieces
 pub mod RefusalLines

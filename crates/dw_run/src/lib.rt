@@ -3,12 +3,13 @@
 
 mod command;
 mod endings;
-mod pieces;
 mod program;
 mod refusal_lines;
 mod refusals;
+mod unit_lines;
 mod unit_texts;
 mod words;
 
 pub use command::Command;
+pub use elf_builder::ElfBuilder;
 pub use program::{RunEnd, run};

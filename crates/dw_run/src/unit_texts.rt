@@ -4,14 +4,14 @@ ghost use Rattle.std.specs.Prelude.{◌≡◌, ◌<◌, ◌≤◌, ℕ, List, Re
 ghost use Rattle.dw_fields.specs.declared.fault_code.Fault.{Fault};
 ghost use Rattle.dw_outside.specs.Faults.{HasCause};
 ghost use Rattle.dw_outside.specs.declared.stops.WriteStop.TheVariants as write_stops;
-ghost use Rattle.dw_run.specs.Pieces.{Writes};
+ghost use Rattle.unit_text.specs.Pieces.{Writes};
 ghost use Rattle.dw_run.specs.Told.{Tells, units_told};
 
 use std::alloc::Global;
 
 use dw_outside::{Sink, WriteStop, write_all};
+use unit_headers::UnitRefusal;
 
-use crate::pieces::UnitRefusal;
 use crate::refusals::Refusal;
 
 /// What a command writes for each unit of a file.

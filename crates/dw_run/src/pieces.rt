@@ -1,8 +1,0 @@
-//! stand-in
-
-use dw_fields::Fault;
-
-pub enum UnitRefusal {
-    Refused(Fault),
-    OutOfMemory,
-}

@@ -1,11 +1,12 @@
 -- What each command tells of a file's sections.
-use Rattle.std.specs.Prelude.{◌≡◌, ℕ, List, [], length, Result, Ok, Err}
+use Rattle.std.specs.Prelude.{◌≡◌, ℕ, ◌+◌, List, [], ◌∷◌, ◌++◌, length, Result, Ok, Err}
 use Rattle.dw_fields.specs.Reading.{◌>>=◌}
-use Rattle.elf_sections.specs.Rows.{ElfView}
+use Rattle.elf_sections.specs.Rows.{ElfView, Row}
 use Rattle.elf_sections.specs.Shapes.{SectionsView, sections_of}
 use Rattle.unit_headers.specs.Headers.{header_at, unit_count}
 use Rattle.unit_headers.specs.Units.{Units}
 use Rattle.unit_text.specs.Pieces.{Text}
+use Rattle.unit_text.specs.SectionLine.{section_line}
 use Rattle.unit_text.specs.UnitLine.{unit_line}
 use Rattle.dw_run.specs.declared.command.Command.{Command}
 use Rattle.dw_run.specs.declared.command.Command.TheVariants as commands
@@ -21,5 +22,15 @@ unit_line_of u i = do
   header ← header_at u.info u.order u.abbrev_length i
   Ok (unit_line header)
 
+-- the lines of all units
+unfoldable pub unit_lines_told : SectionsView → Told
+unit_lines_told s = units_told (unit_line_of (units_of s)) 0 (unit_count s.info s.order)
+
+-- the lines of sections, the first of which has this number
+unfoldable pub sections_text : ℕ → List Row → List ℕ
+sections_text number [] = []
+sections_text number (row ∷ rows) = section_line number row ++ sections_text (number + 1) rows
+
 abbrev pub told_of_elf : Command → ElfView → Told
-told_of_elf commands.Units elf = units_told (unit_line_of (units_of (sections_of elf))) 0 (unit_count (sections_of elf).info (sections_of elf).order)
+told_of_elf commands.Units elf = unit_lines_told (sections_of elf)
+told_of_elf commands.Sections elf = whole (sections_text 0 elf.sections)

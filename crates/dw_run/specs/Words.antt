@@ -17,11 +17,7 @@ unfoldable pub command_named : List ℕ → Option Command
 command_named word =
   if bytes_eq word (codes "units") then Some commands.Units
   else (if bytes_eq word (codes "sections") then Some commands.Sections
-  else (if bytes_eq word (codes "dump") then Some commands.Dump
-  else (if bytes_eq word (codes "abbrev") then Some commands.Abbrev
-  else (if bytes_eq word (codes "lines") then Some commands.Lines
-  else (if bytes_eq word (codes "ranges") then Some commands.Ranges
-  else None)))))
+  else None)
 
 abbrev pub begins_with_dash : List ℕ → Bool
 begins_with_dash [] = false

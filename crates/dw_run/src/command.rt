@@ -10,14 +10,6 @@ pub enum Command {
     Units,
     /// One line per section of the file.
     Sections,
-    /// The entries and attributes of every unit.
-    Dump,
-    /// All abbreviation tables.
-    Abbrev,
-    /// The line table of every unit that has one.
-    Lines,
-    /// The range and location lists of every entry.
-    Ranges,
 }
 
 /// The command of a name, where there is one.
@@ -28,10 +20,6 @@ pub fn find_command(name: &str) -> Option<Command>
     match name {
         "units" => Some(Command::Units),
         "sections" => Some(Command::Sections),
-        "dump" => Some(Command::Dump),
-        "abbrev" => Some(Command::Abbrev),
-        "lines" => Some(Command::Lines),
-        "ranges" => Some(Command::Ranges),
         _ => None,
     }
 }

@@ -6,6 +6,7 @@ mod endings;
 mod program;
 mod refusal_lines;
 mod refusals;
+mod section_lines;
 mod unit_lines;
 mod unit_texts;
 mod words;

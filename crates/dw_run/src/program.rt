@@ -13,12 +13,14 @@ ghost use Rattle.dw_run.specs.Words.{meaning_of, request_view};
 
 use std::alloc::Global;
 
-use dw_outside::{ReadStop, Sink, Source, WriteStop, read_file, write_all};
+use dw_outside::{ReadStop, Sink, Source, WriteStop, read_file};
 use elf_sections::{Elf, OpenRefusal};
 
 use crate::command::Command;
 use crate::endings::{DONE, NO_MEANING, NO_MEMORY, NOT_READ, NOT_WRITTEN, end_refused, end_with};
 use crate::refusals::Refusal;
+use crate::section_lines::tell_sections;
+use crate::unit_lines::tell_unit_lines;
 use crate::words::{Request, read_words};
 
 /// The greatest file that is read, in bytes.
@@ -112,12 +114,12 @@ fn tell<O: Sink>(alloc: Global, command: Command, file: &[u8], out: &mut O) -> R
 }
 
 /// Writes what the command tells of the sections of a file.
-fn tell_elf<O: Sink>(_alloc: Global, command: Command, elf: &Elf<'_>, out: &mut O) -> Result<Option<Refusal>, WriteStop>
+fn tell_elf<O: Sink>(alloc: Global, command: Command, elf: &Elf<'_>, out: &mut O) -> Result<Option<Refusal>, WriteStop>
     ensures told { Tells result (told_of_elf command elf.now) (O.held out.old) (O.held out.new) }
     ensures cause { HasCause write_stops.Failed (O.faults out.old) (O.faults out.new) result }
 {
-    match write_all(out, b"") {
-        Ok(()) => Ok(None),
-        Err(stop) => Err(stop),
+    match command {
+        Command::Units => tell_unit_lines(alloc, &elf.debug_sections(), out),
+        Command::Sections => tell_sections(alloc, elf.sections(), out),
     }
 }

@@ -13,7 +13,7 @@ use Rattle.map_core.specs.Sizes.{cells_of, IsLastFor}
 use Rattle.map_core.specs.History.{value_in, IsLegalHistory, is_in, by_any}
 use Rattle.map_core.specs.Places.{lowest, offset, word_count, key_place, value_place, cells_in, home, spot, Within, IsCell}
 use Rattle.map_core.specs.Machine.{greatest, IsWord, Keeps, State, Passed, Reaches, IsPublished, IsUnset, OneCellPerKey, OneHistory}
-use Rattle.map_core.specs.Passes.{cell, WhoBelow, Distinct, HasClaim, OpenClaims}
+use Rattle.map_core.specs.Passes.{cell, placed, total, WhoBelow, Distinct, CountIsHonest, HasClaim, OpenClaims}
 use Rattle.map_core.proofs.PlaceLemmas.{one_generation, last_within, spot_cell}
 use Rattle.map_core.proofs.WordLemmas.{one_cell}
 use Rattle.map_core.proofs.HistoryLemmas.{value_hit, value_miss, by_hit, test_cases}
@@ -281,3 +281,33 @@ all_below ns n d low whole k lt = ⊎_elim
 pub by_all : (ns : List ℕ) (n : ℕ) (es : List Entry) → ((k : ℕ) → k < n → is_in k ns ≡ true) → WhoBelow n es → by_any ns es ≡ es
 by_all ns n [] all who = refl
 by_all ns n (e ∷ es) all who = by_hit ns e es (all e.who who.0) ∙ ap (λ (x : List Entry). e ∷ x) (by_all ns n es all who.1)
+
+-- one pass's share of a total
+pub total_le : (f : View → ℕ) (vs : List View) (i : ℕ) (v : View) → get_elem? vs i ≡ some v → f v ≤ total f vs
+total_le f [] i v e = absurd (some-ne-none v (sym e))
+total_le f (x ∷ xs) zero v e = let s : f x ≡ f v = ap f (some-injective x v e) in let n : ℕ = total f xs in let goal : f v ≤ f x + n = omega arith in goal
+total_le f (x ∷ xs) (suc i) v e = let h = total_le f xs i v e in let n : ℕ = total f xs in let h' : f v ≤ n = h in let goal : f v ≤ f x + n = omega arith in goal
+
+counted_below : (vs : List View) → total (λ v. v.counted) vs ≤ total placed vs
+counted_below [] = omega arith
+counted_below (v ∷ vs) =
+    let h = counted_below vs in
+    let f : View → ℕ = λ u. u.counted in
+    let a : ℕ = total f vs in
+    let b : ℕ = total placed vs in
+    let h' : a ≤ b = h in
+    let n : ℕ = v.counted in
+    let m : ℕ = length v.uncounted in
+    let goal : n + a ≤ (n + m) + b = omega arith in goal
+
+-- the count is at most the length of the history
+pub count_le : (l : Layout) (mark : List ℕ) (s : State) (views : List View) → CountIsHonest l mark s views → s.count ≤ length s.history
+count_le l mark s views honest =
+    let h = counted_below views in
+    let f : View → ℕ = λ u. u.counted in
+    let a : ℕ = total f views in
+    let b : ℕ = total placed views in
+    let h' : a ≤ b = h in
+    let p : a ≡ s.count = honest.counted in
+    let q : b ≡ length s.history = honest.placed in
+    let goal : s.count ≤ length s.history = omega arith in goal

@@ -6,12 +6,14 @@ use native.Mathlib.Decide.{ℕ_discrete}
 use lib.ListN.{get_elem?}
 use Rattle.map_core.specs.declared.layout.Layout.{Layout}
 use Rattle.map_core.specs.declared.view.View.{View}
-use Rattle.map_core.specs.Places.{lowest, IsCell, key_place}
+use Rattle.map_core.specs.Places.{lowest, IsCell, key_place, Within}
 use Rattle.map_core.specs.Machine.{State}
 use Rattle.map_core.specs.Events.{IsStart}
 use Rattle.map_core.specs.History.{is_in}
-use Rattle.map_core.specs.Passes.{all_numbers, PassAt, HasFirst, FrontsOfOneHistory, CountIsHonest, OpenClaims, Together}
+use Rattle.map_core.specs.Passes.{all_numbers, PassAt, HasFirst, FrontsOfOneHistory, CountIsHonest, OpenClaims, Together, Told}
 use Rattle.map_core.specs.Knowing.{first_view}
+use Rattle.map_core.proofs.SizeLemmas.{cells_pos}
+use Rattle.map_core.proofs.PlaceLemmas.{lowest_within}
 use Rattle.map_core.proofs.CountLemmas.{in_hit, in_miss}
 
 module _ (l : Layout) (mark : List ℕ) (s : State) (cells : (q : ℕ) → s.cells q ≡ 0) (current : s.current ≡ lowest l) (count : s.count ≡ 0) (log : s.history ≡ []) where
@@ -64,3 +66,27 @@ module _ (l : Layout) (mark : List ℕ) (s : State) (cells : (q : ℕ) → s.cel
         count = record { counted = sym count; placed = sym (ap (λ es. length es) log) };
         claims = record { claimed = λ g i a unset. let z = cells (key_place l g i) in let p = unset.0.0 in absurd (omega arith) };
       }
+
+-- what the first pass knows by itself
+pub first_told : (fits : List ℕ → ℕ → ℕ → Type 0) (l : Layout) (mark : List ℕ) → Told fits (first_view l mark)
+first_told fits l mark =
+    let passes : ℕ = l.passes in
+    let some_pass : 1 ≤ passes = l.passes_fit.0 in
+    record {
+      live = refl;
+      alone = (refl, refl);
+      own = in_hit 0 0 [] refl;
+      number = let goal : 0 < passes = omega arith in goal;
+      spare = let goal : passes - 1 < passes = omega arith in goal;
+      others = λ h. absurd (omega arith);
+      legal = tt;
+      tally = refl;
+      made = λ e. tt;
+      few = λ e. let goal : 1 ≤ passes - (passes - 1) = omega arith in goal;
+      whole = λ e n. refl;
+      generation = in_hit (lowest l) (lowest l) [] refl;
+      currents = λ c h. dite (ℕ_discrete c (lowest l)) (λ e. subst (Within l) (sym e) (lowest_within l)) (λ ne. absurd (true≢false (sym h ∙ in_miss c (lowest l) [] ne)));
+      seen = λ g i a key value. let pos = key.0 in absurd (omega arith);
+      ends = λ c k word current closed passed. let pos = (passed.others 0 (cells_pos l.last)).0.0 in absurd (omega arith);
+      small = omega arith;
+    }

@@ -1,0 +1,226 @@
+-- Each step keeps the rule, and tells what its call ensures.
+use Rattle.std.proofs.Common.{◌≡◌, ◌≢◌, ◌⊎◌, ℕ, zero, suc, ◌+◌, ◌-◌, ◌*◌, ◌%◌, ◌^◌, ◌<◌, ◌≤◌, Bool, true, false, eqb, List, [], ◌∷◌, ◌++◌, length, set, slice_index, Option, Some, None, if◌then◌else◌, ◌==◌, refl, sym, ap, subst, ◌∙◌, inl, inr, ⊎_elim, arith, length-set, length-append, mod-eq_of_lt, append-nil, append_assoc, eq-eqb, ne_eqb, get_or-set_other, get_or-set_same}
+use Rattle.std.proofs.lemmas.List.{set-get_or}
+use mathlib.Core.Logic.{dite}
+use mathlib.Core.Option.{some, none}
+use native.Mathlib.Decide.{ℕ_discrete}
+use lib.ListN.{get_elem?}
+use prog.Atomic.{either}
+use Rattle.boxcar.specs.declared.tag.Tag.{Tag}
+use Rattle.atomic_table.proofs.Lists.{set_here, exchanged}
+use Rattle.atomic_table.specs.Table.{State, Me, Step, step, Act, keeps, Valid, stepped, Allows}
+use Rattle.map_core.specs.declared.entry.Entry.{Entry}
+use Rattle.map_core.specs.declared.layout.Layout.{Layout}
+use Rattle.map_core.specs.declared.view.View.{View}
+use Rattle.map_core.specs.History.{value_in, IsLegalHistory, is_in, by_any, StartsWith, StartsWithOwn}
+use Rattle.map_core.specs.Places.{offset, word_count, key_place, value_place, cells_in, IsCell}
+use Rattle.map_core.specs.Machine.{greatest, IsWord, Keeps, state_of, Sound, Reaches, IsClosed, IsSettled}
+use Rattle.map_core.specs.Events.{Event, claims, publishes, counts, entry, Lawful, and_then, Writes, Adds, IsStep}
+use Rattle.map_core.specs.Calls.{own}
+use Rattle.map_core.specs.Passes.{look, cell, drop_claim, all_numbers, placed, PassAt, Together, Turn, Told}
+use Rattle.map_core.specs.Knowing.{rest_of, sees, reads, grabs, places, counts_seen, tallies, settles}
+use Rattle.map_core.proofs.PlaceLemmas.{one_generation, key_key, value_value}
+use Rattle.map_core.proofs.WordLemmas.{reaches_on, keeps_value}
+use Rattle.map_core.proofs.HistoryLemmas.{by_append}
+use Rattle.map_core.proofs.SoundLemmas.{lawful_sound}
+use Rattle.map_core.proofs.PassLemmas.{turns, there_below}
+use Rattle.map_core.proofs.TurnLemmas.{look_hit, seen_more, sees_turn, counts_seen_turn, reads_turn, grabs_turn, places_turn, tallies_turn, settles_turn}
+use Rattle.map_core.proofs.CountLemmas.{log_small, total_le}
+use Rattle.map_core.proofs.TellLemmas.{tells}
+use Rattle.map_core.proofs.AbsentLemmas.{absent_at_empty, absent_unset}
+use Rattle.map_cells.specs.declared.about.About.{About}
+use Rattle.map_cells.specs.Steps.{ClosedTo, SettledTo, Steps, Looks, KeySeen, ValueSeen, CountSeen, KeyTried, IsNewest, IsPlaced, IsLost, ValueTried, CountRaised}
+use Rattle.map_cells.specs.Passing.{Settles}
+use Rattle.map_cells.specs.Rule.{Kept, KeyLooked, ValueLooked, CountLooked, Claimed, Published, Counted, Settled}
+use Rattle.map_cells.proofs.WordSteps.{words_small, key_within, value_within, same_place, writes_word, count_cells}
+
+-- a table of this pass's sizes
+abbrev pub about : View → Tag → About
+about v t = record { layout = v.layout; tag = t }
+
+-- a step that adds nothing leaves the pass's own entries
+pub own_stays : (v : View) (front : List Entry) → StartsWithOwn v.numbers v.front front → by_any v.numbers front ≡ own v
+own_stays v front p = sym (ap (by_any v.numbers) p.joins) ∙ (by_append v.numbers v.front p.rest ∙ (ap (λ (x : List Entry). own v ++ x) p.others ∙ append-nil (own v)))
+
+module _ (fits : List ℕ → ℕ → ℕ → Type 0) (t : Tag) (id : ℕ) (v : View) (live : v.live ≡ true) (s : State (Unit {0}) View) (kept : Kept fits (about v t) s) (at : get_elem? s.views id ≡ some v) where
+  pub sound_now : Sound v.layout (fits t.numbers) (state_of v.layout s.words kept.log)
+  sound_now = lawful_sound v.layout (fits t.numbers) kept.events (state_of v.layout s.words kept.log) kept.lawful
+
+  pub pass_now : PassAt v.layout t.numbers (state_of v.layout s.words kept.log) id v
+  pass_now = kept.together.fronts.each id v at live
+
+  -- the rule after a turn
+  pub keep_turn : (ws : List ℕ) (log : List Entry) (events : List Event) (w : View) → Lawful v.layout (fits t.numbers) events (state_of v.layout ws log) → length ws ≡ word_count v.layout
+      → Turn v.layout t.numbers (state_of v.layout s.words kept.log) (state_of v.layout ws log) id v w → Kept fits (about v t) record { words = ws; homes = s.homes; views = set s.views id w }
+  keep_turn ws log events w lawful size turn =
+      record {
+        events = events;
+        log = log;
+        lawful = lawful;
+        together = turns v.layout t.numbers (state_of v.layout s.words kept.log) (state_of v.layout ws log) s.views id v w at kept.together turn;
+        size = size;
+      }
+
+  -- and what the pass then knows by itself
+  pub tell_turn : (ws : List ℕ) (log : List Entry) (events : List Event) (w : View) → Lawful v.layout (fits t.numbers) events (state_of v.layout ws log) → length ws ≡ word_count v.layout
+      → Turn v.layout t.numbers (state_of v.layout s.words kept.log) (state_of v.layout ws log) id v w → w.front ≡ log → w.beside ≡ [] → w.beside_numbers ≡ [] → Told fits w
+  tell_turn ws log events w lawful size turn front beside alone =
+      let so = lawful_sound v.layout (fits t.numbers) events (state_of v.layout ws log) lawful in
+      let few = log_small v.layout (fits t.numbers) ws log so.history in
+      tells v.layout fits t.numbers (state_of v.layout ws log) (set s.views id w) id w so
+      (turns v.layout t.numbers (state_of v.layout s.words kept.log) (state_of v.layout ws log) s.views id v w at kept.together turn)
+      (set_here s.views id w (there_below s.views id v at)) turn.live.1 front beside alone (subst (λ (n : ℕ). length log ≤ n) size few)
+
+  -- a load keeps the rule
+  pub keep_load : (q : ℕ) (w : View) → Turn v.layout t.numbers (state_of v.layout s.words kept.log) (state_of v.layout s.words kept.log) id v w
+      → Kept fits (about v t) record { words = set s.words q (slice_index s.words q); homes = s.homes; views = set s.views id w }
+  keep_load q w turn =
+      subst (λ (ws : List ℕ). Kept fits (about v t) record { words = ws; homes = s.homes; views = set s.views id w }) (sym (set-get_or s.words q 0)) (keep_turn s.words kept.log kept.events w kept.lawful kept.size turn)
+
+  pub tell_load : (w : View) → Turn v.layout t.numbers (state_of v.layout s.words kept.log) (state_of v.layout s.words kept.log) id v w → w.front ≡ kept.log → w.beside ≡ [] → w.beside_numbers ≡ [] → Told fits w
+  tell_load w turn = tell_turn s.words kept.log kept.events w kept.lawful kept.size turn
+
+  -- one more word was seen, and nothing else changed
+  pub saw : (q n : ℕ) → cells_in v.layout s.words q ≡ n → (w : View) → w.known ≡ (q, n) ∷ v.known → w.front ≡ kept.log
+      → (w.layout ≡ v.layout) × (w.tag ≡ v.tag) × (w.number ≡ v.number) × (w.numbers ≡ v.numbers) × (w.spare ≡ v.spare) × (w.generation ≡ v.generation) × (w.currents ≡ v.currents) × (w.count_seen ≡ v.count_seen) → Looks v w
+  saw q n is w known front same =
+      let mine : StartsWithOwn v.numbers v.front w.front = subst (StartsWithOwn v.numbers v.front) (sym front) pass_now.front in
+      record {
+        steps = record {
+          layout = same.0;
+          tag = same.1;
+          number = same.2;
+          numbers = same.3;
+          spare = same.4;
+          generation = same.5;
+          currents = same.6;
+          front = record { rest = mine.rest; joins = mine.joins };
+          seen = λ x h. ap (λ (k : List (ℕ × ℕ)). look k x) known ∙ seen_more v.known (cells_in v.layout s.words) q n x is pass_now.knows h;
+          count_seen = let e = same.7 in omega arith;
+        };
+        mine = mine;
+        own = ap (λ (ns : List ℕ). by_any ns w.front) same.3 ∙ own_stays v w.front mine;
+      }
+
+module _ (fits : List ℕ → ℕ → ℕ → Type 0) (t : Tag) (slots id : ℕ) (v : View) (c : List (ℕ × Unit {0})) (told : Told fits v) where
+  pub look_allowed : (g i q : ℕ) → IsCell v.layout g i → q ≡ key_place v.layout g i + offset v.layout → Allows (Kept fits (about v t)) slots id (v, c) q (λ n. n) (KeyLooked fits (step slots q 0 0 none) (v, c))
+  look_allowed g i q a place s kept homes at small =
+      let p : ℕ = key_place v.layout g i in
+      let n : ℕ = slice_index s.words q in
+      let C : ℕ → ℕ = cells_in v.layout s.words in
+      let is : C p ≡ n = ap (slice_index s.words) (sym place) in
+      let w : View = sees v kept.log p n in
+      let so = sound_now fits t id v told.live s kept at in
+      let here = pass_now fits t id v told.live s kept at in
+      let turn = sees_turn v.layout t.numbers (state_of v.layout s.words kept.log) id v told.live here p n is in (
+        w,
+        keeps,
+        tt,
+        keep_load fits t id v told.live s kept at q w turn,
+        record {
+          slots = refl;
+          seen = λ h j b at_q.
+              let same : p ≡ key_place v.layout h j = same_place v.layout p (key_place v.layout h j) (sym place ∙ at_q) in
+              let there : C (key_place v.layout h j) ≡ n = ap C (sym same) ∙ is in
+              record {
+                looks = saw fits t id v told.live s kept at p n is w refl refl (refl, refl, refl, refl, refl, refl, refl, refl);
+                told = tell_load fits t id v told.live s kept at w turn refl told.alone.0 told.alone.1;
+                claim = refl;
+                uncounted = refl;
+                counted = refl;
+                word = look_hit v.known p n (key_place v.layout h j) same;
+                unsealed = λ last. subst (λ (x : ℕ). x < greatest) (ap (λ (x : ℕ). C (key_place v.layout x j)) (sym last) ∙ there) (so.cells.last_open j (subst (λ (x : ℕ). j < Rattle.map_core.specs.Sizes.cells_of x) last b.1)).0;
+                absent = λ k empty walk closed. absent_at_empty v.layout C (fits t.numbers) kept.log so.cells so.history h j k b (there ∙ empty) (reaches_on v.layout (look v.known) C here.knows h j k walk);
+              };
+        },
+      )
+
+  pub read_allowed : (g i q : ℕ) → IsCell v.layout g i → q ≡ value_place v.layout g i + offset v.layout → Allows (Kept fits (about v t)) slots id (v, c) q (λ n. n) (ValueLooked fits (step slots q 0 0 none) (v, c))
+  read_allowed g i q a place s kept homes at small =
+      let p : ℕ = value_place v.layout g i in
+      let n : ℕ = slice_index s.words q in
+      let C : ℕ → ℕ = cells_in v.layout s.words in
+      let is : C p ≡ n = ap (slice_index s.words) (sym place) in
+      let w : View = reads v.layout v kept.log g i n in
+      let so = sound_now fits t id v told.live s kept at in
+      let here = pass_now fits t id v told.live s kept at in
+      let turn = reads_turn v.layout t.numbers (state_of v.layout s.words kept.log) id v told.live here g i n a is in (
+        w,
+        keeps,
+        tt,
+        keep_load fits t id v told.live s kept at q w turn,
+        record {
+          slots = refl;
+          seen = λ h j b at_q.
+              let same : p ≡ value_place v.layout h j = same_place v.layout p (value_place v.layout h j) (sym place ∙ at_q) in
+              let one = value_value v.layout g i h j a b same in
+              let there : C (value_place v.layout h j) ≡ n = ap C (sym same) ∙ is in
+              record {
+                looks = saw fits t id v told.live s kept at p n is w refl refl (refl, refl, refl, refl, refl, refl, refl, refl);
+                told = tell_load fits t id v told.live s kept at w turn refl told.alone.0 told.alone.1;
+                claim = λ x. if n == 0 then v.claim else drop_claim v.claim (one.0 x) (one.1 x);
+                uncounted = refl;
+                counted = refl;
+                word = look_hit v.known p n (value_place v.layout h j) same;
+                unclosed = λ last. subst (λ (x : ℕ). x < greatest) (ap (λ (x : ℕ). C (value_place v.layout x j)) (sym last) ∙ there) (so.cells.last_open j (subst (λ (x : ℕ). j < Rattle.map_core.specs.Sizes.cells_of x) last b.1)).1;
+                absent = λ k unset word key closed. absent_unset v.layout C (fits t.numbers) kept.log so.cells so.history h j k b word (keeps_value (look v.known) C here.knows (key_place v.layout h j) k word.0 key) (there ∙ unset);
+                present = λ k value word key.
+                    let key_there = keeps_value (look v.known) C here.knows (key_place v.layout h j) k word.0 key in
+                    subst (λ (x : ℕ × ℕ). value_in kept.log x.0 ≡ Some x.1) (λ x. (key_there x, there x)) (so.history.kept h j b (subst IsWord (sym key_there) word) (subst IsWord (sym there) value));
+              };
+        },
+      )
+
+  pub count_look_allowed : Allows (Kept fits (about v t)) slots id (v, c) 1 (λ n. n) (CountLooked fits (step slots 1 0 0 none) (v, c))
+  count_look_allowed s kept homes at small =
+      let n : ℕ = slice_index s.words 1 in
+      let w : View = counts_seen v kept.log n in
+      let here = pass_now fits t id v told.live s kept at in
+      let turn = counts_seen_turn v.layout t.numbers (state_of v.layout s.words kept.log) id v told.live here in
+      let knows = tell_load fits t id v told.live s kept at w turn refl told.alone.0 told.alone.1 in
+      let mine : StartsWithOwn v.numbers v.front kept.log = here.front in
+      let mine_of = total_le (λ u. u.counted) s.views id v at in
+      let sum : Rattle.map_core.specs.Passes.total (λ u. u.counted) s.views ≡ n = kept.together.count.counted in (
+        w,
+        keeps,
+        tt,
+        keep_load fits t id v told.live s kept at 1 w turn,
+        record {
+          slots = refl;
+          seen = record {
+            looks = record {
+              steps = record {
+                layout = refl;
+                tag = refl;
+                number = refl;
+                numbers = refl;
+                spare = refl;
+                generation = refl;
+                currents = refl;
+                front = record { rest = mine.rest; joins = mine.joins };
+                seen = λ x h. refl;
+                count_seen = here.count_seen;
+              };
+              mine = mine;
+              own = own_stays v kept.log mine;
+            };
+            told = knows;
+            claim = refl;
+            uncounted = refl;
+            counted = refl;
+            known = refl;
+            seen = refl;
+            low =
+                let tally : length (by_any v.numbers kept.log) ≡ v.counted + length v.uncounted = knows.tally in
+                let a : ℕ = length (by_any v.numbers kept.log) in
+                let b : ℕ = v.counted in
+                let d : ℕ = length v.uncounted in
+                let tally' : a ≡ b + d = tally in
+                let e : ℕ = Rattle.map_core.specs.Passes.total (λ u. u.counted) s.views in
+                let sum' : e ≡ n = sum in
+                let mine' : b ≤ e = mine_of in
+                let goal : a ≤ n + d = omega arith in goal;
+            high = Rattle.map_core.proofs.CountLemmas.count_le v.layout t.numbers (state_of v.layout s.words kept.log) s.views kept.together.count;
+          };
+        },
+      )

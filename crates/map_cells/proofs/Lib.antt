@@ -1,0 +1,5 @@
+pub mod WordSteps
+pub mod Allowed
+pub mod Exchanges
+pub mod Openings
+pub mod CallFacts

@@ -1,0 +1,26 @@
+use Rattle.std.proofs.Common.{◌≡◌, ℕ, ◌-◌, List, [], replicate, sym, ap, subst, ◌∙◌}
+use Rattle.map_core.specs.declared.view.View.{View}
+use Rattle.map_core.specs.Passes.{placed, Told}
+use Rattle.map_core.specs.Knowing.{first_view}
+use Rattle.map_core.proofs.StartLemmas.{first_told}
+use Rattle.map_cells.proofs.Openings.{opens}
+use Rattle.map_cells.proofs.cells.Cells.new.Goals as goal
+
+pub of_words-requires : goal.of_words-requires
+of_words-requires g c =
+    let ok = c.in_ok-words.ensures in
+    opens g.F.Facts.fits record { layout = c.args.layout; tag = c.of.result } c.as_slice.result.now
+    (c.as_slice.ensures.value ∙ (ok.items_if_clones_equal (λ y e. e) ∙ ap (λ (n : ℕ). replicate n 0) c.count_words.ensures))
+    (c.as_slice.ensures.len ∙ (ok.len ∙ c.count_words.ensures))
+
+pub invariant_of-pass : goal.invariant_of-pass
+invariant_of-pass g c =
+    let me = c.in_ok-table.ensures.4 in
+    let v : View = first_view c.args.layout c.of.result.numbers in
+    let is : c.in_ok-table.seat.me.0 ≡ v = ap (λ m. m.0) me in (
+      ap (λ m. m.1) me,
+      sym (ap (λ (x : View). x.number) is),
+      ap (λ (n : ℕ). n - 1) c.requires ∙ sym (ap (λ (x : View). x.spare) is),
+      sym (ap placed is),
+      subst (Told g.F.Facts.fits) (sym is) (first_told g.F.Facts.fits c.args.layout c.of.result.numbers),
+    )

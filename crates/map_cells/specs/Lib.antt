@@ -1,0 +1,5 @@
+pub mod Words
+pub mod Seen
+pub mod Steps
+pub mod Passing
+pub mod Rule

@@ -1,0 +1,135 @@
+-- What each step call tells: of what the pass knew before, v, and what it knows after, w. The step found the number n in a word.
+use Rattle.std.specs.Prelude.{◌≡◌, ◌≢◌, ◌⊎◌, ℕ, ◌+◌, ◌<◌, ◌≤◌, List, [], ◌∷◌, ◌++◌, length, Option, Some, None, if◌then◌else◌, ◌==◌, true}
+use Rattle.map_core.specs.declared.entry.Entry.{Entry}
+use Rattle.map_core.specs.declared.view.View.{View}
+use Rattle.map_core.specs.History.{value_in, is_in, StartsWith, StartsWithOwn}
+use Rattle.map_core.specs.Places.{key_place, value_place}
+use Rattle.map_core.specs.Machine.{greatest, IsWord, Reaches, IsClosed, IsSettled}
+use Rattle.map_core.specs.Events.{entry}
+use Rattle.map_core.specs.Calls.{own}
+use Rattle.map_core.specs.Passes.{look, cell, drop_claim, Told}
+use Rattle.map_core.specs.Knowing.{rest_of}
+
+-- the key is seen closed in each generation from a current one up to below g
+pub record ClosedTo (v : View) (g k : ℕ) : Type 0 where
+  pub from : ℕ
+  pub current : is_in from v.currents ≡ true
+  pub low : from ≤ g
+  pub closed : (h : ℕ) → from ≤ h → h < g → IsClosed v.layout (look v.known) h k
+
+-- and the same, where it may also be seen published
+pub record SettledTo (v : View) (g k : ℕ) : Type 0 where
+  pub from : ℕ
+  pub current : is_in from v.currents ≡ true
+  pub low : from ≤ g
+  pub settled : (h : ℕ) → from ≤ h → h < g → IsSettled v.layout (look v.known) h k
+
+-- what every step keeps, and what it may only add to
+pub record Steps (v w : View) : Type 0 where
+  pub layout : w.layout ≡ v.layout
+  pub tag : w.tag ≡ v.tag
+  pub number : w.number ≡ v.number
+  pub numbers : w.numbers ≡ v.numbers
+  pub spare : w.spare ≡ v.spare
+  pub generation : w.generation ≡ v.generation
+  pub currents : w.currents ≡ v.currents
+  pub front : StartsWith v.front w.front
+  pub seen : (q : ℕ) → 0 < look v.known q → look w.known q ≡ look v.known q
+  pub count_seen : v.count_seen ≤ w.count_seen
+
+-- a step that adds no entry: what follows the old front is by others
+pub record Looks (v w : View) : Type 0 where
+  pub steps : Steps v w
+  pub mine : StartsWithOwn v.numbers v.front w.front
+  pub own : own w ≡ own v
+
+module _ (fits : List ℕ → ℕ → ℕ → Type 0) where
+  -- a load of the key word of a cell
+  pub record KeySeen (g i n : ℕ) (v w : View) : Type 0 where
+    pub looks : Looks v w
+    pub told : Told fits w
+    pub claim : w.claim ≡ v.claim
+    pub uncounted : w.uncounted ≡ v.uncounted
+    pub counted : w.counted ≡ v.counted
+    pub word : look w.known (key_place v.layout g i) ≡ n
+    pub unsealed : g ≡ v.layout.last → n < greatest
+    -- an empty word at the end of a key's walk: the front lacks the key
+    pub absent : (k : ℕ) → n ≡ 0 → Reaches v.layout (look v.known) g i k → ClosedTo v g k → value_in w.front k ≡ None
+
+  -- a load of the value word of a cell
+  pub record ValueSeen (g i n : ℕ) (v w : View) : Type 0 where
+    pub looks : Looks v w
+    pub told : Told fits w
+    pub claim : w.claim ≡ (if n == 0 then v.claim else drop_claim v.claim g i)
+    pub uncounted : w.uncounted ≡ v.uncounted
+    pub counted : w.counted ≡ v.counted
+    pub word : look w.known (value_place v.layout g i) ≡ n
+    pub unclosed : g ≡ v.layout.last → n < greatest
+    -- an unset value at a key that was seen: the front lacks the key
+    pub absent : (k : ℕ) → n ≡ 0 → IsWord k → look v.known (key_place v.layout g i) ≡ k → ClosedTo v g k → value_in w.front k ≡ None
+    pub present : (k : ℕ) → IsWord n → IsWord k → look v.known (key_place v.layout g i) ≡ k → value_in w.front k ≡ Some n
+
+  -- a load of the count
+  pub record CountSeen (n : ℕ) (v w : View) : Type 0 where
+    pub looks : Looks v w
+    pub told : Told fits w
+    pub claim : w.claim ≡ v.claim
+    pub uncounted : w.uncounted ≡ v.uncounted
+    pub counted : w.counted ≡ v.counted
+    pub known : w.known ≡ v.known
+    pub seen : w.count_seen ≡ n
+    -- it is at least the pass's own entries less the uncounted ones, and at most the front's
+    pub low : length (own w) ≤ n + length w.uncounted
+    pub high : n ≤ length w.front
+
+  -- an exchange of an empty key word for k
+  pub record KeyTried (g i k n : ℕ) (v w : View) : Type 0 where
+    pub looks : Looks v w
+    pub told : Told fits w
+    pub uncounted : w.uncounted ≡ v.uncounted
+    pub counted : w.counted ≡ v.counted
+    pub unsealed : g ≡ v.layout.last → n < greatest
+    pub won : n ≡ 0 → (w.claim ≡ Some (cell g i)) × (look w.known (key_place v.layout g i) ≡ k)
+    pub lost : n ≢ 0 → (w.claim ≡ v.claim) × (look w.known (key_place v.layout g i) ≡ n)
+
+  -- the entry is the last of the front, and its key was not there before
+  pub record IsNewest (e : Entry) (v w : View) : Type 0 where
+    pub before : List Entry
+    pub front : before ++ e ∷ [] ≡ w.front
+    pub old : StartsWith v.front before
+    pub lacks : value_in before e.key ≡ None
+
+  -- an exchange of an unset value word for x that was made
+  pub record IsPlaced (g i k x : ℕ) (v w : View) : Type 0 where
+    pub newest : IsNewest (entry v.number k x) v w
+    pub own : own w ≡ own v ++ entry v.number k x ∷ []
+    pub uncounted : w.uncounted ≡ v.uncounted ++ entry v.number k x ∷ []
+    pub word : look w.known (value_place v.layout g i) ≡ x
+
+  -- and one that was lost
+  pub record IsLost (g i n : ℕ) (v w : View) : Type 0 where
+    pub looks : Looks v w
+    pub uncounted : w.uncounted ≡ v.uncounted
+    pub word : look w.known (value_place v.layout g i) ≡ n
+
+  pub record ValueTried (g i k x n : ℕ) (v w : View) : Type 0 where
+    pub steps : Steps v w
+    pub told : Told fits w
+    pub counted : w.counted ≡ v.counted
+    pub claim : w.claim ≡ drop_claim v.claim g i
+    pub unclosed : g ≡ v.layout.last → n < greatest
+    pub won : n ≡ 0 → IsPlaced g i k x v w
+    pub lost : n ≢ 0 → IsLost g i n v w
+    pub present : IsWord n → value_in w.front k ≡ Some n
+
+  -- an addition of 1 to the count, which is n afterwards
+  pub record CountRaised (n : ℕ) (v w : View) : Type 0 where
+    pub looks : Looks v w
+    pub told : Told fits w
+    pub claim : w.claim ≡ v.claim
+    pub uncounted : w.uncounted ≡ rest_of v.uncounted
+    pub counted : w.counted ≡ v.counted + 1
+    pub known : w.known ≡ v.known
+    pub seen : w.count_seen ≡ n
+    pub low : length (own w) ≤ n + length w.uncounted
+    pub high : n ≤ length w.front

@@ -1,0 +1,51 @@
+//! Steps on a key word.
+ghost use Rattle.std.specs.Prelude.{◌≡◌, None};
+ghost use Rattle.map_core.specs.Places.{IsCell};
+ghost use Rattle.map_core.specs.Machine.{IsWord, Reaches};
+ghost use Rattle.map_core.specs.Passes.{look};
+ghost use Rattle.map_cells.specs.Seen.{IsOf};
+ghost use Rattle.map_cells.specs.Words.{key_number, IsProperKey};
+ghost use Rattle.map_cells.specs.Steps.{SettledTo, KeySeen, KeyTried};
+
+use crate::about::Facts;
+use crate::cells::Cells;
+use crate::pass::Pass;
+use crate::places::key_word;
+use crate::plays::{Claim, KeyLoad};
+use crate::words::KeyWord;
+use map_core::Cell;
+
+impl<F: Facts> Cells<F> {
+    /// Loads the key word of a cell.
+    pub fn key_at(&self, pass: &mut Pass<F>, cell: Cell) -> KeyWord
+        requires of { IsOf self.now pass.old }
+        requires cell { IsCell self.now.layout cell.generation cell.index }
+        ensures table { pass.new.table ≡ pass.old.table }
+        ensures word { IsProperKey result }
+        ensures seen { KeySeen F.fits cell.generation cell.index (key_number result) pass.old.knows pass.new.knows }
+    {
+        let word = key_word(&self.layout, cell);
+        let found = self.table.shared.load::<KeyLoad<F>>(&mut pass.seat, word);
+        KeyWord::of(found)
+    }
+
+    /// Claims an empty cell for a key, and answers the word before the step: `Empty` where this step made the change.
+    pub fn claim(&self, pass: &mut Pass<F>, cell: Cell, key: u64) -> KeyWord
+        requires of { IsOf self.now pass.old }
+        requires cell { IsCell self.now.layout cell.generation cell.index }
+        requires key { IsWord key }
+        requires free { pass.old.knows.claim ≡ None }
+        requires reached { Reaches pass.old.knows.layout (look pass.old.knows.known) cell.generation cell.index key }
+        requires settled { SettledTo pass.old.knows cell.generation key }
+        ensures table { pass.new.table ≡ pass.old.table }
+        ensures word { IsProperKey result }
+        ensures tried { KeyTried F.fits cell.generation cell.index key (key_number result) pass.old.knows pass.new.knows }
+    {
+        let word = key_word(&self.layout, cell);
+        let found = self
+            .table
+            .shared
+            .compare_exchange::<Claim<F>>(&mut pass.seat, word, 0, key);
+        KeyWord::of(found)
+    }
+}

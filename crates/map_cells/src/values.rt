@@ -1,0 +1,56 @@
+//! Steps on a value word.
+ghost use Rattle.std.specs.Prelude.{◌≡◌};
+ghost use Rattle.map_core.specs.Places.{IsCell, key_place};
+ghost use Rattle.map_core.specs.Machine.{IsWord};
+ghost use Rattle.map_core.specs.Passes.{look};
+ghost use Rattle.map_cells.specs.Seen.{IsOf};
+ghost use Rattle.map_cells.specs.Words.{value_number, IsProperValue};
+ghost use Rattle.map_cells.specs.Steps.{ClosedTo, ValueSeen, ValueTried};
+
+use crate::about::Facts;
+use crate::cells::Cells;
+use crate::pass::Pass;
+use crate::places::value_word;
+use crate::plays::{Publish, ValueLoad};
+use crate::words::ValueWord;
+use map_core::Cell;
+
+impl<F: Facts> Cells<F> {
+    /// Loads the value word of a cell.
+    pub fn value_at(&self, pass: &mut Pass<F>, cell: Cell) -> ValueWord
+        requires of { IsOf self.now pass.old }
+        requires cell { IsCell self.now.layout cell.generation cell.index }
+        ensures table { pass.new.table ≡ pass.old.table }
+        ensures word { IsProperValue result }
+        ensures seen { ValueSeen F.fits cell.generation cell.index (value_number result) pass.old.knows pass.new.knows }
+    {
+        let word = value_word(&self.layout, cell);
+        let found = self.table.shared.load::<ValueLoad<F>>(&mut pass.seat, word);
+        ValueWord::of(found)
+    }
+
+    /// Publishes a value in a cell whose key was seen, and answers the word before the step: `Unset` where this step
+    /// made the change.
+    pub fn publish(&self, pass: &mut Pass<F>, cell: Cell, key: u64, value: u64) -> ValueWord
+        requires of { IsOf self.now pass.old }
+        requires cell { IsCell self.now.layout cell.generation cell.index }
+        requires key { IsWord key }
+        requires value { IsWord value }
+        requires seen { look pass.old.knows.known (key_place pass.old.knows.layout cell.generation cell.index) ≡ key }
+        requires fits { F.fits pass.old.knows.tag key value }
+        requires closed { ClosedTo pass.old.knows cell.generation key }
+        ensures table { pass.new.table ≡ pass.old.table }
+        ensures word { IsProperValue result }
+        ensures tried { ValueTried F.fits cell.generation cell.index key value (value_number result) pass.old.knows pass.new.knows }
+    {
+        let word = value_word(&self.layout, cell);
+        let found = self
+            .table
+            .shared
+            .compare_exchange::<Publish<F>>(&mut pass.seat, word, 0, value);
+        if found == 0 {
+            pass.entries += 1;
+        }
+        ValueWord::of(found)
+    }
+}

@@ -1,13 +1,15 @@
 -- One entry more of a list: what was listed so far, in front of the rest of the list.
-use Rattle.std.proofs.Common.{◌≡◌, ℕ, suc, List, ◌++◌, Option, Some, None, Ok, Err, refl, sym, ◌∙◌, ap, append-nil}
-use Rattle.std.specs.Prelude.{option_to_list}
+use Rattle.std.proofs.Common.{◌≡◌, ℕ, suc, List, ◌++◌, Option, Some, None, Ok, Err, refl, sym, ◌∙◌, ap, append-nil, map}
+use Rattle.std.proofs.lemmas.List.{map-append}
+use Rattle.std.specs.Prelude.{option_map, option_to_list}
 use Rattle.dw_fields.specs.declared.fault_code.Fault.{Fault}
 use Rattle.dw_fields.specs.declared.fault_code.Code.TheVariants.{ListUnended}
 use Rattle.dw_fields.specs.Codes.{fault}
 use Rattle.dw_fields.specs.Span.{Span, at}
 use Rattle.dw_fields.specs.Reading.{Reader}
 use Rattle.dw_fields.specs.Walk.{ahead, ahead-append, others-ahead}
-use Rattle.range_lists.specs.Turns.{Turn, list_from}
+use Rattle.range_lists.specs.Turns.{list_from}
+use Rattle.range_lists.specs.declared.turns.Turn.{Turn}
 
 -- an entry that goes on: what it lists is at the end of the front
 pub list_next : {X : Type 0} → (entry : ℕ → Reader (Option (Turn X))) (m n base : ℕ) (s new : Span) (front more : List X) (turn : Turn X)
@@ -40,3 +42,12 @@ pub list_stops : {X : Type 0} → (entry : ℕ → Reader (Option (Turn X))) (m 
     → m ≡ 0 → ahead front (list_from entry m base s) ≡ Err (fault ListUnended s.end)
 unfolding list_from
 list_stops entry m base s front none = rw none refl
+
+-- what is listed more, seen without where its bytes lie
+pub seen_more : {X Y : Type 0} → (seen : X → Y) (old new : List X) (listed : Option X) → new ≡ old ++ option_to_list listed
+    → map seen new ≡ map seen old ++ option_to_list (option_map seen listed)
+seen_more seen old new listed grown = ap (λ xs. map seen xs) grown ∙ map-append seen old (option_to_list listed) ∙ ap (λ xs. map seen old ++ xs) (one seen listed)
+  where
+    one : {X Y : Type 0} → (seen : X → Y) (listed : Option X) → map seen (option_to_list listed) ≡ option_to_list (option_map seen listed)
+    one seen None = refl
+    one seen (Some x) = refl

@@ -38,9 +38,13 @@ abbrev pub known_kind : ℕ → Option Kind → Result Kind Fault
 known_kind place (Some kind) = Ok kind
 known_kind place None = Err (fault ListKind place)
 
--- the kind that begins an entry; a list may not end with the section
+-- the number that begins an entry; a list may not end with the section
+unfoldable pub kind_number_at : Reader ℕ
+kind_number_at s = renamed Truncated ListUnended (number_at 1 s)
+
+-- the kind that begins an entry
 unfoldable pub kind_at : (ℕ → Option Kind) → Reader Kind
 kind_at kinds s = do
-  number ← renamed Truncated ListUnended (number_at 1 s)
+  number ← kind_number_at s
   kind ← known_kind s.place (kinds number.0)
   Ok (kind, number.1)

@@ -1,5 +1,5 @@
 -- Location lists (DWARF 5, section 2.6.2).
-use Rattle.std.specs.Prelude.{ℕ, List, Option, Some, None, option_map, Result, Ok, unwrap_or}
+use Rattle.std.specs.Prelude.{ℕ, List, Option, Some, None, Result, Ok, unwrap_or}
 use Rattle.dw_fields.specs.declared.fault_code.Fault.{Fault}
 use Rattle.dw_fields.specs.declared.fault_code.Code.TheVariants.{Truncated, ListTruncated}
 use Rattle.dw_fields.specs.Span.{at}
@@ -10,11 +10,11 @@ use Rattle.range_lists.specs.declared.bounds.Range.{Range}
 use Rattle.range_lists.specs.declared.operands.Operands.{Operands}
 use Rattle.range_lists.specs.declared.operands.Operands.TheVariants.{End, Base, Bounds}
 use Rattle.range_lists.specs.declared.locations.Location.{Location}
-use Rattle.range_lists.specs.declared.locations.LocationTurn.{LocationTurn}
+use Rattle.range_lists.specs.declared.turns.Turn.{Turn}
 use Rattle.range_lists.specs.Kinds.{kind_at, location_kind}
 use Rattle.range_lists.specs.Context.{Context, context}
 use Rattle.range_lists.specs.Operands.{operands_at, number_operand_at}
-use Rattle.range_lists.specs.Turns.{Turn, list_at, span_from, needed_section}
+use Rattle.range_lists.specs.Turns.{list_at, span_from, needed_section}
 
 -- a location, without where its expression lies; no range is the default location
 pub record LocationView : Type 0 where
@@ -23,9 +23,6 @@ pub record LocationView : Type 0 where
 
 abbrev pub location_view : Location → LocationView
 location_view l = record { range = l.range; expression = l.expression.now }
-
-abbrev pub location_turn_view : LocationTurn → Turn LocationView
-location_turn_view t = record { base = t.base; listed = option_map location_view t.listed }
 
 -- a count and that many bytes
 unfoldable pub expression_at : Reader (List ℕ)
@@ -43,8 +40,8 @@ located base (Bounds range) s = do
   Ok (Some (record { base = base; listed = Some (record { range = range; expression = expression.0 }) }), expression.1)
 
 -- one entry; none is the end of the list
-unfoldable pub location_turn_at : Context → ℕ → Reader (Option (Turn LocationView))
-location_turn_at c base s = do
+unfoldable pub location_entry_at : Context → ℕ → Reader (Option (Turn LocationView))
+location_entry_at c base s = do
   kind ← kind_at location_kind s
   operands ← operands_at c base kind.0 s.place (at s kind.1)
   located base operands.0 (at s operands.1)
@@ -53,4 +50,4 @@ location_turn_at c base s = do
 unfoldable pub locations_of : SectionsView → ℕ → UnitFacts → ℕ → Result (List LocationView) Fault
 locations_of sections size facts offset = do
   section ← needed_section sections.location_lists
-  list_at (location_turn_at (context sections size facts.bases)) (unwrap_or facts.low_pc 0) (span_from section sections.order offset)
+  list_at (location_entry_at (context sections size facts.bases)) (unwrap_or facts.low_pc 0) (span_from section sections.order offset)

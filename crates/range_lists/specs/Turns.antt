@@ -1,16 +1,16 @@
 -- A list, entry after entry up to its end.
-use Rattle.std.specs.Prelude.{ℕ, zero, suc, ◌-◌, min, List, [], ◌++◌, length, Option, Some, None, option_to_list, Result, Ok, Err}
+use Rattle.std.specs.Prelude.{ℕ, zero, suc, ◌-◌, min, List, [], ◌++◌, length, Option, Some, None, option_map, option_to_list, Result, Ok, Err}
 use Rattle.dw_fields.specs.declared.byte_order.Order.{Order}
 use Rattle.dw_fields.specs.declared.fault_code.Fault.{Fault}
 use Rattle.dw_fields.specs.declared.fault_code.Code.TheVariants.{NoSection, ListUnended}
 use Rattle.dw_fields.specs.Codes.{fault}
+use Rattle.range_lists.specs.declared.turns.Turn.{Turn}
 use Rattle.dw_fields.specs.Span.{Span, at}
 use Rattle.dw_fields.specs.Reading.{Reader, ◌>>=◌}
 
--- what an entry leaves: the base of the entries behind it, and what it lists
-pub record Turn (X : Type 0) : Type 0 where
-  pub base : ℕ
-  pub listed : Option X
+-- what an entry leaves, without where the bytes of what it lists lie
+abbrev pub turn_view : {X Y : Type 0} → (X → Y) → Turn X → Turn Y
+turn_view seen turn = record { base = turn.base; listed = option_map seen turn.listed }
 
 -- behind an entry: the end of the list, or what the entry lists and the rest
 abbrev pub goes_on : {X : Type 0} → Option (Turn X) → (Turn X → Result (List X) Fault) → Result (List X) Fault

@@ -2,7 +2,7 @@
 //! tables 7.30, and section 7.7.3, table 7.10).
 ghost use Rattle.std.specs.Prelude.{◌≡◌};
 ghost use Rattle.dw_fields.specs.Reading.{Reads};
-ghost use Rattle.range_lists.specs.Kinds.{range_kind as kind_of_range, location_kind as kind_of_location, known_kind, kind_at};
+ghost use Rattle.range_lists.specs.Kinds.{range_kind as kind_of_range, location_kind as kind_of_location, known_kind, kind_number_at, kind_at};
 
 use dw_fields::{Code, Cut, Fault, renamed};
 
@@ -29,7 +29,7 @@ pub(crate) fn read_range_kind(cut: &mut Cut) -> Result<Kind, Fault>
     ensures { Reads (λ k. k) result (kind_at kind_of_range) cut.old cut.new }
 {
     let place = cut.place();
-    let number = renamed(cut.u8(), Code::Truncated, Code::ListUnended)?;
+    let number = kind_number(cut)?;
     known(range_kind(number), place)
 }
 
@@ -42,8 +42,16 @@ pub(crate) fn read_location_kind(cut: &mut Cut) -> Result<Kind, Fault>
     ensures { Reads (λ k. k) result (kind_at kind_of_location) cut.old cut.new }
 {
     let place = cut.place();
-    let number = renamed(cut.u8(), Code::Truncated, Code::ListUnended)?;
+    let number = kind_number(cut)?;
     known(location_kind(number), place)
+}
+
+/// The number of the kind that begins an entry. A list may not end with the section.
+#[tactic(auto, unfolding(crate::specs::Kinds::kind_number_at))]
+fn kind_number(cut: &mut Cut) -> Result<u8, Fault>
+    ensures { Reads (λ x. x) result kind_number_at cut.old cut.new }
+{
+    renamed(cut.u8(), Code::Truncated, Code::ListUnended)
 }
 
 /// A number that no kind has is refused at its place.

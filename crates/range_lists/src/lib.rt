@@ -9,9 +9,11 @@
 mod bounds;
 mod context;
 mod kinds;
+mod lists;
 mod locations;
 mod operands;
 mod ranges;
+mod turns;
 
 pub use bounds::Range;
 pub use locations::{Location, read_locations};

@@ -100,10 +100,13 @@ fn start_length(cut: &mut Cut, unit: &UnitContext<'_, '_>) -> Result<Operands, F
     requires { IsAddressSize unit.now.header.now.address_size }
     ensures { Reads (λ o. o) result (start_length_at (context_view unit.now)) cut.old cut.new }
 {
-    let low = address(cut, unit)?;
+    let start = address(cut, unit)?;
     let length = number(cut)?;
-    let high = sum(low, length, unit.header.address_size);
-    Ok(Operands::Bounds(Some(Range { low, high })))
+    let end = sum(start, length, unit.header.address_size);
+    Ok(Operands::Bounds(Some(Range {
+        low: start,
+        high: end,
+    })))
 }
 
 /// The address that an index stands for. What the index refers to is refused at the entry's kind.

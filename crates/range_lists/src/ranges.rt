@@ -1,29 +1,23 @@
 //! Range lists.
-ghost use Rattle.std.specs.Prelude.{◌≡◌, ◌-◌, ◌++◌, OnOk, option_map, option_to_list, unwrap_or};
-ghost use Rattle.dw_fields.specs.Reading.{IsAddressSize, Reads};
+ghost use Rattle.std.specs.Prelude.{◌≡◌, option_map};
+ghost use Rattle.dw_fields.specs.Reading.{IsAddressSize};
 ghost use Rattle.elf_sections.specs.Shapes.{sections_view};
 ghost use Rattle.unit_headers.specs.Refusals.{Answers};
-ghost use Rattle.range_lists.specs.Context.{context_view};
-ghost use Rattle.range_lists.specs.Turns.{list_from, span_from};
-ghost use Rattle.range_lists.specs.Ranges.{ranges_of, range_turn_at, turned, range_turn_view};
+ghost use Rattle.range_lists.specs.declared.bounds.Range.{Range};
+ghost use Rattle.range_lists.specs.Turns.{turn_view};
+ghost use Rattle.range_lists.specs.Ranges.{ranges_of, range_entry_at, turned};
 
 use crate::bounds::Range;
 use crate::context::UnitContext;
 use crate::kinds::read_range_kind;
+use crate::lists::{Listed, list_cut, read_list};
 use crate::operands::{Operands, read_operands};
-use dw_fields::{Code, Cut, Fault, Order};
+use crate::turns::Turn;
+use dw_fields::{Code, Cut, Fault};
 use elf_sections::Sections;
 use form_values::UnitFacts;
-use std::alloc::{AllocError, Global};
+use std::alloc::Global;
 use unit_headers::{UnitHeader, UnitRefusal};
-
-/// What an entry of a range list leaves: the base of the entries behind it, and the range that it
-/// lists, if it lists one.
-#[derive(Clone, Copy)]
-struct RangeTurn {
-    base: u64,
-    listed: Option<Range>,
-}
 
 /// The ranges of the list at `offset` in `.debug_rnglists`, in their order, empty ones too. The base
 /// of its offsets is the unit's lowest address, or 0 where it has none, up to the first entry that
@@ -63,84 +57,35 @@ pub fn read_ranges(
         bases: &facts.bases,
     };
     let cut = list_cut(section, sections.order, offset);
-    range_list(alloc, &unit, cut, facts.low_pc.unwrap_or(0))
+    read_list(alloc, &unit, cut, facts.low_pc.unwrap_or(0))
 }
 
-/// The part of the section from the offset on. An offset past the end counts as the end.
-#[tactic(auto, unfolding(crate::specs::Turns::span_from))]
-pub(crate) fn list_cut<'f>(section: &'f [u8], order: Order, offset: u64) -> Cut<'f>
-    ensures { result ≡ span_from section.entry.now order offset }
-{
-    let end = section.len() as u64;
-    Cut::new(section, offset.min(end), end, order)
-}
+impl<'f> Listed<'f> for Range {
+    ghost Seen = { Range };
 
-fn range_list(
-    alloc: Global,
-    unit: &UnitContext<'_, '_>,
-    mut cut: Cut,
-    start: u64,
-) -> Result<Vec<Range>, UnitRefusal>
-    requires { IsAddressSize unit.now.header.now.address_size }
-    ensures { Answers (λ ranges. ranges.items) result (list_from (range_turn_at (context_view unit.now)) (cut.entry.end - cut.entry.place) start cut.entry) }
-{
-    let end = cut.end();
-    let mut base = start;
-    let mut ranges = Vec::new(alloc);
-    for _turn in 0..cut.left() {
-        let found = match range_turn(&mut cut, unit, base) {
-            Ok(found) => found,
-            Err(fault) => return Err(UnitRefusal::Refused(fault)),
-        };
-        let Some(turn) = found else {
-            return Ok(ranges);
-        };
-        match add(&mut ranges, turn.listed) {
-            Ok(()) => {}
-            Err(_) => return Err(UnitRefusal::OutOfMemory),
-        }
-        base = turn.base;
+    ghost seen = { λ r. r };
+
+    ghost entry_at = { range_entry_at };
+
+    #[tactic(auto, unfolding(crate::specs::Ranges::range_entry_at))]
+    fn read_entry(
+        cut: &mut Cut<'f>,
+        unit: &UnitContext<'_, '_>,
+        base: u64,
+    ) -> Result<Option<Turn<Range>>, Fault> {
+        let place = cut.place();
+        let kind = read_range_kind(cut)?;
+        let operands = read_operands(cut, unit, base, kind, place)?;
+        Ok(turn_of(base, operands))
     }
-    Err(UnitRefusal::Refused(Fault {
-        code: Code::ListUnended,
-        place: end,
-    }))
 }
 
-/// One entry; `None` is the end of the list.
-#[tactic(auto, unfolding(crate::specs::Ranges::range_turn_at))]
-fn range_turn(
-    cut: &mut Cut,
-    unit: &UnitContext<'_, '_>,
-    base: u64,
-) -> Result<Option<RangeTurn>, Fault>
-    requires { IsAddressSize unit.now.header.now.address_size }
-    ensures { Reads (option_map range_turn_view) result (range_turn_at (context_view unit.now) base) cut.old cut.new }
-{
-    let place = cut.place();
-    let kind = read_range_kind(cut)?;
-    let operands = read_operands(cut, unit, base, kind, place)?;
-    Ok(turn_of(base, operands))
-}
-
-fn turn_of(base: u64, operands: Operands) -> Option<RangeTurn>
-    ensures { option_map range_turn_view result ≡ turned base operands }
+fn turn_of(base: u64, operands: Operands) -> Option<Turn<Range>>
+    ensures { option_map (turn_view (λ r. r)) result ≡ turned base operands }
 {
     match operands {
         Operands::End => None,
-        Operands::Base(base) => Some(RangeTurn { base, listed: None }),
-        Operands::Bounds(listed) => Some(RangeTurn { base, listed }),
-    }
-}
-
-fn add(ranges: &mut Vec<Range>, listed: Option<Range>) -> Result<(), AllocError>
-    ensures { OnOk result (ranges.new.items ≡ ranges.old.items ++ option_to_list listed) }
-{
-    match listed {
-        Some(range) => match ranges.push(range) {
-            Ok(()) => Ok(()),
-            Err(_) => Err(AllocError),
-        },
-        None => Ok(()),
+        Operands::Base(base) => Some(Turn { base, listed: None }),
+        Operands::Bounds(listed) => Some(Turn { base, listed }),
     }
 }

@@ -16,17 +16,17 @@ use Rattle.dw_run.specs.Told.{Told}
 pub ends_done : (told : Told) (out0 out1 err : Option (List ℕ)) (out_faults0 out_faults1 err_faults : ℕ)
     → None ≡ told.refusal → Gains out0 out1 told.text → out_faults0 ≤ out_faults1 → Ends told 0 out0 out1 err err out_faults0 out_faults1 err_faults err_faults
 ends_done told out0 out1 err out_faults0 out_faults1 err_faults is gains later = record {
-    answers = inl (omega arith);
-    whole = λ below. record {
-      status_is = ap status_of is;
-      on_out = gains;
-      on_err = rw (← is) (Gains-nothing err);
-    };
-    part = GainsPart-whole out0 out1 told.text gains;
-    failed = λ four. absurd (omega (arith, four));
-    later_out = later;
-    later_err = omega arith;
-  }
+  answers = inl (omega arith);
+  whole = λ below. record {
+    status_is = ap status_of is;
+    on_out = gains;
+    on_err = rw (← is) (Gains-nothing err);
+  };
+  part = GainsPart-whole out0 out1 told.text gains;
+  failed = λ four. absurd (omega (arith, four));
+  later_out = later;
+  later_err = omega arith;
+}
 
 told_status : (status : ℕ) → status < 2 → (status ≡ 1) ⊎ (status ≡ 4) ⊎ (status ≡ 5) → status ≡ 1
 told_status status below answers = grind arith
@@ -45,17 +45,17 @@ pub ends_refused : (told : Told) (refusal : Refusal) (status : ℕ) (out0 out1 e
     → Some refusal ≡ told.refusal → Gains out0 out1 told.text → out_faults0 ≤ out_faults1 → EndsRefused refusal status err0 err1 err_faults0 err_faults1
     → Ends told status out0 out1 err0 err1 out_faults0 out_faults1 err_faults0 err_faults1
 ends_refused told refusal status out0 out1 err0 err1 out_faults0 out_faults1 err_faults0 err_faults1 is gains later end = record {
-    answers = answers_of status end.answers;
-    whole = λ below. record {
-      status_is = rw (← is) (told_status status below end.answers);
-      on_out = gains;
-      on_err = rw (← is) (end.told (omega (arith, below)));
-    };
-    part = GainsPart-whole out0 out1 told.text gains;
-    failed = λ four. inr (end.failed four);
-    later_out = later;
-    later_err = end.later;
-  }
+  answers = answers_of status end.answers;
+  whole = λ below. record {
+    status_is = rw (← is) (told_status status below end.answers);
+    on_out = gains;
+    on_err = rw (← is) (end.told (omega (arith, below)));
+  };
+  part = GainsPart-whole out0 out1 told.text gains;
+  failed = λ four. inr (end.failed four);
+  later_out = later;
+  later_err = end.later;
+}
 
 -- a front of 2^30 + 1 bytes tells what the file tells
 pub told_of_front : (command : Command) (front whole : List ℕ) → front ≡ take (2 ^ 30 + 1) whole → told_of command front ≡ told_of command whole

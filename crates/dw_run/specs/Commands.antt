@@ -1,5 +1,6 @@
 -- What each command tells of a file's sections.
-use Rattle.std.specs.Prelude.{◌≡◌, ℕ, ◌+◌, List, [], ◌∷◌, ◌++◌, length, Result, Ok, Err}
+use Rattle.std.specs.Prelude.{◌≡◌, ℕ, ◌+◌, List, [], ◌∷◌, ◌++◌, length, Option, Some, None, Result, Ok, Err}
+use Rattle.dw_fields.specs.declared.fault_code.Fault.{Fault}
 use Rattle.dw_fields.specs.Reading.{◌>>=◌}
 use Rattle.elf_sections.specs.Rows.{ElfView, Row}
 use Rattle.elf_sections.specs.Shapes.{SectionsView, sections_of}
@@ -7,9 +8,12 @@ use Rattle.unit_headers.specs.Headers.{header_at, unit_count}
 use Rattle.unit_headers.specs.Units.{Units}
 use Rattle.unit_text.specs.Pieces.{Text}
 use Rattle.unit_text.specs.SectionLine.{section_line}
+use Rattle.unit_text.specs.Tables.{tables_text}
 use Rattle.unit_text.specs.UnitLine.{unit_line}
 use Rattle.dw_run.specs.declared.command.Command.{Command}
 use Rattle.dw_run.specs.declared.command.Command.TheVariants as commands
+use Rattle.dw_run.specs.declared.refusals.Refusal.{Refusal}
+use Rattle.dw_run.specs.declared.refusals.Refusal.TheVariants as refusals
 use Rattle.dw_run.specs.Told.{Told, whole, units_told}
 
 -- the units of a file's sections
@@ -31,6 +35,15 @@ unfoldable pub sections_text : ℕ → List Row → List ℕ
 sections_text number [] = []
 sections_text number (row ∷ rows) = section_line number row ++ sections_text (number + 1) rows
 
+-- the tables up to the first fault, which refuses them
+abbrev pub tables_end : Option Fault → Option Refusal
+tables_end None = None
+tables_end (Some fault) = Some (refusals.Tables fault)
+
+unfoldable pub tables_told : List ℕ → Told
+tables_told section = record { text = (tables_text section).0; refusal = tables_end (tables_text section).1 }
+
 abbrev pub told_of_elf : Command → ElfView → Told
 told_of_elf commands.Units elf = unit_lines_told (sections_of elf)
 told_of_elf commands.Sections elf = whole (sections_text 0 elf.sections)
+told_of_elf commands.Abbrev elf = tables_told (sections_of elf).«abbrev»

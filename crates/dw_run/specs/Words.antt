@@ -15,9 +15,10 @@ request_view r = record { command = r.command; file = r.file.now }
 
 unfoldable pub command_named : List ℕ → Option Command
 command_named word =
-  if bytes_eq word (codes "units") then Some commands.Units
-  else (if bytes_eq word (codes "sections") then Some commands.Sections
-  else None)
+    if bytes_eq word (codes "units") then Some commands.Units
+    else (if bytes_eq word (codes "sections") then Some commands.Sections
+    else (if bytes_eq word (codes "abbrev") then Some commands.Abbrev
+    else None))
 
 abbrev pub begins_with_dash : List ℕ → Bool
 begins_with_dash [] = false
@@ -27,6 +28,6 @@ abbrev pub meaning_of : List (List ℕ) → Option RequestView
 meaning_of [] = None
 meaning_of (command ∷ []) = None
 meaning_of (command ∷ file ∷ []) =
-  if begins_with_dash file then None
-  else option_map (λ c. record { command = c; file = file }) (command_named command)
+    if begins_with_dash file then None
+    else option_map (λ c. record { command = c; file = file }) (command_named command)
 meaning_of (command ∷ file ∷ other ∷ others) = None

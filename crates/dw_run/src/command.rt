@@ -10,6 +10,8 @@ pub enum Command {
     Units,
     /// One line per section of the file.
     Sections,
+    /// All abbreviation tables.
+    Abbrev,
 }
 
 /// The command of a name, where there is one.
@@ -20,6 +22,7 @@ pub fn find_command(name: &str) -> Option<Command>
     match name {
         "units" => Some(Command::Units),
         "sections" => Some(Command::Sections),
+        "abbrev" => Some(Command::Abbrev),
         _ => None,
     }
 }

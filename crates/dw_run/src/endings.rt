@@ -5,12 +5,10 @@ ghost use Rattle.dw_outside.specs.Faults.{Rose};
 ghost use Rattle.dw_outside.specs.Gains.{Gains, GainsPart};
 ghost use Rattle.dw_run.specs.Endings.{EndsWith, EndsRefused};
 
-use std::alloc::Global;
-
-use dw_outside::{Sink, WriteStop, write_all};
-
 use crate::refusal_lines::line_of;
 use crate::refusals::Refusal;
+use dw_outside::{Sink, WriteStop, write_all};
+use std::alloc::Global;
 
 /// Nothing is refused.
 pub(crate) const DONE: u8 = 0;

@@ -7,6 +7,7 @@ mod program;
 mod refusal_lines;
 mod refusals;
 mod section_lines;
+mod tables;
 mod unit_lines;
 mod unit_texts;
 mod words;

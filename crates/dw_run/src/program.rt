@@ -11,17 +11,16 @@ ghost use Rattle.dw_run.specs.Output.{Ends, Meets, output_of, output_of_told, to
 ghost use Rattle.dw_run.specs.Told.{Tells};
 ghost use Rattle.dw_run.specs.Words.{meaning_of, request_view};
 
-use std::alloc::Global;
-
-use dw_outside::{ReadStop, Sink, Source, WriteStop, read_file};
-use elf_sections::{Elf, OpenRefusal};
-
 use crate::command::Command;
 use crate::endings::{DONE, NO_MEANING, NO_MEMORY, NOT_READ, NOT_WRITTEN, end_refused, end_with};
 use crate::refusals::Refusal;
 use crate::section_lines::tell_sections;
+use crate::tables::tell_tables;
 use crate::unit_lines::tell_unit_lines;
 use crate::words::{Request, read_words};
+use dw_outside::{ReadStop, Sink, Source, WriteStop, read_file};
+use elf_sections::{Elf, OpenRefusal};
+use std::alloc::Global;
 
 /// The greatest file that is read, in bytes.
 const FILE_LIMIT: u64 = 1 << 30;
@@ -89,7 +88,13 @@ fn answer<S: Source, O: Sink, E: Sink>(
 }
 
 /// Tells what the command says of the bytes of a file, and ends the run.
-fn tell_and_end<O: Sink, E: Sink>(alloc: Global, command: Command, file: &[u8], out: &mut O, err: &mut E) -> u8
+fn tell_and_end<O: Sink, E: Sink>(
+    alloc: Global,
+    command: Command,
+    file: &[u8],
+    out: &mut O,
+    err: &mut E,
+) -> u8
     ensures { Ends (told_of command file.now) result (O.held out.old) (O.held out.new) (E.held err.old) (E.held err.new) (O.faults out.old) (O.faults out.new) (E.faults err.old) (E.faults err.new) }
 {
     match tell(alloc, command, file, out) {
@@ -102,7 +107,12 @@ fn tell_and_end<O: Sink, E: Sink>(alloc: Global, command: Command, file: &[u8], 
 
 /// Writes what the command tells of the bytes of a file to `out`, and answers the refusal that ends it.
 #[tactic(auto, unfolding(crate::specs::Output::told_of))]
-fn tell<O: Sink>(alloc: Global, command: Command, file: &[u8], out: &mut O) -> Result<Option<Refusal>, WriteStop>
+fn tell<O: Sink>(
+    alloc: Global,
+    command: Command,
+    file: &[u8],
+    out: &mut O,
+) -> Result<Option<Refusal>, WriteStop>
     ensures told { Tells result (told_of command file.now) (O.held out.old) (O.held out.new) }
     ensures cause { HasCause write_stops.Failed (O.faults out.old) (O.faults out.new) result }
 {
@@ -114,12 +124,18 @@ fn tell<O: Sink>(alloc: Global, command: Command, file: &[u8], out: &mut O) -> R
 }
 
 /// Writes what the command tells of the sections of a file.
-fn tell_elf<O: Sink>(alloc: Global, command: Command, elf: &Elf<'_>, out: &mut O) -> Result<Option<Refusal>, WriteStop>
+fn tell_elf<O: Sink>(
+    alloc: Global,
+    command: Command,
+    elf: &Elf<'_>,
+    out: &mut O,
+) -> Result<Option<Refusal>, WriteStop>
     ensures told { Tells result (told_of_elf command elf.now) (O.held out.old) (O.held out.new) }
     ensures cause { HasCause write_stops.Failed (O.faults out.old) (O.faults out.new) result }
 {
     match command {
         Command::Units => tell_unit_lines(alloc, &elf.debug_sections(), out),
         Command::Sections => tell_sections(alloc, elf.sections(), out),
+        Command::Abbrev => tell_tables(alloc, elf.debug_sections().abbrev, out),
     }
 }

@@ -4,13 +4,11 @@ ghost use Rattle.std.specs.Prelude.{◌≡◌, IfOk};
 ghost use Rattle.dw_text.specs.Added.{Adds};
 ghost use Rattle.dw_run.specs.RefusalLines.{file_line, file_number, fault_text, refusal_line, section_text, tables_fault_line, unit_fault_line};
 
-use std::alloc::{AllocError, Global};
-
+use crate::refusals::Refusal;
 use dw_fields::Fault;
 use dw_text::{push_decimal_after, push_hex_after, push_text_after};
 use elf_sections::ElfRefusal;
-
-use crate::refusals::Refusal;
+use std::alloc::{AllocError, Global};
 
 /// The line on standard error for a refusal, with its newline.
 pub(crate) fn line_of(alloc: Global, refusal: &Refusal) -> Result<Vec<u8>, AllocError>

@@ -7,16 +7,18 @@ ghost use Rattle.elf_sections.specs.Shapes.{row};
 ghost use Rattle.dw_run.specs.Commands.{sections_text};
 ghost use Rattle.dw_run.specs.Told.{Tells, whole};
 
-use std::alloc::{AllocError, Global};
-
+use crate::refusals::Refusal;
 use dw_outside::{Sink, WriteStop, write_all};
 use elf_sections::Section;
+use std::alloc::{AllocError, Global};
 use unit_text::write_section;
 
-use crate::refusals::Refusal;
-
 /// Writes the line of every section.
-pub(crate) fn tell_sections<O: Sink>(alloc: Global, sections: &[Section<'_>], out: &mut O) -> Result<Option<Refusal>, WriteStop>
+pub(crate) fn tell_sections<O: Sink>(
+    alloc: Global,
+    sections: &[Section<'_>],
+    out: &mut O,
+) -> Result<Option<Refusal>, WriteStop>
     ensures told { Tells result (whole (sections_text 0 (map row sections.now))) (O.held out.old) (O.held out.new) }
     ensures cause { HasCause write_stops.Failed (O.faults out.old) (O.faults out.new) result }
 {
@@ -30,7 +32,11 @@ pub(crate) fn tell_sections<O: Sink>(alloc: Global, sections: &[Section<'_>], ou
     }
 }
 
-fn push_sections(alloc: Global, sections: &[Section<'_>], text: &mut Vec<u8>) -> Result<(), AllocError>
+fn push_sections(
+    alloc: Global,
+    sections: &[Section<'_>],
+    text: &mut Vec<u8>,
+) -> Result<(), AllocError>
     ensures { OnOk result (text.new.items ≡ text.old.items ++ sections_text 0 (map row sections.now)) }
 {
     let mut number = 0;

@@ -8,24 +8,31 @@ ghost use Rattle.dw_run.specs.Commands.{unit_line_of, unit_lines_told};
 ghost use Rattle.dw_run.specs.Told.{Tells};
 ghost use Rattle.unit_headers.specs.Headers.{unit_count};
 
-use std::alloc::Global;
-
+use crate::refusals::Refusal;
+use crate::unit_texts::{UnitTexts, tell_units};
 use dw_outside::{Sink, WriteStop};
 use elf_sections::Sections;
+use std::alloc::Global;
 use unit_headers::{UnitIndex, UnitRefusal};
 use unit_text::write_unit_line;
 
-use crate::refusals::Refusal;
-use crate::unit_texts::{UnitTexts, tell_units};
-
 /// Writes the line of every unit.
 #[tactic(auto, unfolding(crate::specs::Commands::unit_lines_told))]
-pub(crate) fn tell_unit_lines<O: Sink>(alloc: Global, sections: &Sections<'_>, out: &mut O) -> Result<Option<Refusal>, WriteStop>
+pub(crate) fn tell_unit_lines<O: Sink>(
+    alloc: Global,
+    sections: &Sections<'_>,
+    out: &mut O,
+) -> Result<Option<Refusal>, WriteStop>
     requires { length sections.now.«abbrev».now < 2 ^ 32 }
     ensures told { Tells result (unit_lines_told (sections_view sections.now)) (O.held out.old) (O.held out.new) }
     ensures cause { HasCause write_stops.Failed (O.faults out.old) (O.faults out.new) result }
 {
-    match UnitIndex::read(alloc, sections.info, sections.abbrev.len() as u64, sections.order) {
+    match UnitIndex::read(
+        alloc,
+        sections.info,
+        sections.abbrev.len() as u64,
+        sections.order,
+    ) {
         Ok(index) => tell_units(alloc, &mut UnitLines { alloc, index }, out),
         Err(_) => Err(WriteStop::OutOfMemory),
     }

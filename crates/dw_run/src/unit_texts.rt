@@ -7,12 +7,10 @@ ghost use Rattle.dw_outside.specs.declared.stops.WriteStop.TheVariants as write_
 ghost use Rattle.unit_text.specs.Pieces.{Writes};
 ghost use Rattle.dw_run.specs.Told.{Tells, units_told};
 
-use std::alloc::Global;
-
-use dw_outside::{Sink, WriteStop, write_all};
-use unit_headers::UnitRefusal;
-
 use crate::refusals::Refusal;
+use dw_outside::{Sink, WriteStop, write_all};
+use std::alloc::Global;
+use unit_headers::UnitRefusal;
 
 /// What a command writes for each unit of a file.
 pub(crate) trait UnitTexts {

@@ -1,13 +1,12 @@
 //! `dwtool`: prints the debugging information of ELF files (docs/FORMATS.md).
 #![tactic(auto)]
 
+use dw_outside::{FileSource, StreamSink};
+use dw_run::run;
 use std::alloc::Global;
 use std::process::ExitCode;
 use std::rt::Env;
 use std::{env, io};
-
-use dw_outside::{FileSource, StreamSink};
-use dw_run::run;
 
 /// The status for want of memory before the words are read.
 const NO_MEMORY: u8 = 5;

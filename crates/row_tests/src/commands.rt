@@ -1,13 +1,11 @@
 //! The commands of a line.
 
-use std::alloc::Global;
-use std::io::{self, Write};
-
-use dw_outside::{MemorySink, MemorySource};
-use dw_run::{ElfBuilder, run};
-
 use crate::hex::bytes_of;
 use crate::rows::Row;
+use dw_outside::{MemorySink, MemorySource};
+use dw_run::{ElfBuilder, run};
+use std::alloc::Global;
+use std::io::{self, Write};
 
 /// Does what the line says.
 pub fn obey<R: Print + AllocGlobal>(rt: &R, row: &mut Row, line: &str) -> io::Result<()> {

@@ -5,6 +5,6 @@ use Rattle.dw_run.proofs.section_lines.push_sections.Given as goal
 
 abbrev pub invariant-sections : goal.invariant-sections
 invariant-sections l = record {
-    number : l.number ≡ l.section-index;
-    text : l.text.items ++ sections_text l.section-index (map row (drop l.section-index l.sections)) ≡ l.fn.text.items ++ sections_text 0 (map row l.sections);
-  }
+  number : l.number ≡ l.section-index;
+  text : l.text.items ++ sections_text l.section-index (map row (drop l.section-index l.sections)) ≡ l.fn.text.items ++ sections_text 0 (map row l.sections);
+}

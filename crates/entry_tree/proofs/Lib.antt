@@ -1,0 +1,4 @@
+pub mod AreaSteps
+pub mod AttrSteps
+pub mod FirstCode
+pub mod ToldSteps

@@ -1,0 +1,26 @@
+use Rattle.std.proofs.Common.{◌≡◌, ◌+◌, ◌-◌, ◌≤◌, map, true}
+use Rattle.dw_fields.specs.Span.{at}
+use Rattle.dw_fields.specs.Walk.{ahead, walk}
+use Rattle.abbrev_decl.specs.Lookup.{Extends}
+use Rattle.form_values.specs.View.{widths_of}
+use Rattle.entry_tree.specs.Views.{entry_view}
+use Rattle.entry_tree.specs.Entries.{entry_at}
+use Rattle.entry_tree.specs.Keys.{GainsOnly, IsFoundKey, IsKeyAmong, KeysKnown, KeysNoted}
+use Rattle.entry_tree.proofs.entries.read_area.Given as goal
+
+abbrev pub invariant-entries : goal.invariant-entries
+invariant-entries g l = record {
+  same : l.cut ≡ at l.fn.cut l.cut.place;
+  moved : l.fn.cut.place + l._turn ≤ l.cut.place;
+  deep : l.fn.cut.place + l.depth ≤ l.cut.place;
+  walked : ahead (map entry_view l.entries.items) (walk (entry_at (g.D.Decls.section l.fn.decls) l.header.«abbrev» (widths_of l.header)) (l.turns - l._turn) l.depth l.cut)
+      ≡ walk (entry_at (g.D.Decls.section l.fn.decls) l.header.«abbrev» (widths_of l.header)) l.turns 0 l.fn.cut;
+  kept : g.D.Decls.section l.decls ≡ g.D.Decls.section l.fn.decls;
+  follows : g.D.Decls.follows l.fn.decls l.decls;
+  seen : Extends (g.D.Decls.seen l.fn.decls) (g.D.Decls.seen l.decls);
+  spent : g.D.Decls.spent l.fn.decls ≡ true → g.D.Decls.spent l.decls ≡ true;
+  placed : GainsOnly (IsFoundKey (g.D.Decls.section l.fn.decls) l.header.«abbrev») (g.D.Decls.placed l.fn.decls) (g.D.Decls.placed l.decls);
+  keys : GainsOnly (IsKeyAmong l.header.«abbrev» (map entry_view l.entries.items)) (g.D.Decls.placed l.fn.decls) (g.D.Decls.placed l.decls);
+  noted : KeysNoted (g.D.Decls.seen l.decls) (g.D.Decls.spent l.decls) l.header.«abbrev» (map entry_view l.entries.items);
+  known : KeysKnown (g.D.Decls.seen l.fn.decls) l.header.«abbrev» (map entry_view l.entries.items) → l.steps ≡ l.fn.steps;
+}

@@ -1,0 +1,7 @@
+pub mod Views
+pub mod Entries
+pub mod Keys
+pub mod KeyLaws
+pub mod Facts
+pub mod Told
+pub mod Units

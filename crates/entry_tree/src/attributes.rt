@@ -1,0 +1,76 @@
+//! The attributes of an entry.
+
+ghost use Rattle.std.specs.Prelude.{◌≡◌, ◌≤◌, ◌++◌, ◌∷◌, [], map, OnOk};
+ghost use Rattle.dw_fields.specs.Reading.{Gives, IsAddressSize};
+ghost use Rattle.form_values.specs.View.{widths_of};
+ghost use Rattle.unit_headers.specs.Refusals.{AnswersAt};
+ghost use Rattle.entry_tree.specs.Views.{attr_view};
+ghost use Rattle.entry_tree.specs.Entries.{attr_at, attrs_at};
+
+use crate::shapes::Attr;
+use abbrev_decl::{AttrSpec, Attrs};
+use bumpalo::Bump;
+use bumpalo::collections::into_bump_slice;
+use dw_fields::{Cut, Fault};
+use form_values::read_value;
+use std::alloc::AllocError;
+use unit_headers::{UnitHeader, UnitRefusal};
+
+/// The attribute of a pair.
+#[tactic(auto, unfolding(crate::specs::Entries::attr_at))]
+pub(crate) fn read_attr<'f>(
+    cut: &mut Cut<'f>,
+    header: &UnitHeader,
+    pair: AttrSpec,
+) -> Result<Attr<'f>, Fault>
+    requires { IsAddressSize header.now.address_size }
+    ensures attr { Gives attr_view result (attr_at (widths_of header.now) pair) cut.old cut.new }
+    ensures forward { OnOk result (cut.old.place ≤ cut.new.place) }
+{
+    let place = cut.place();
+    match read_value(cut, pair.form, header, pair.implicit) {
+        Ok(raw) => Ok(Attr {
+            name: pair.name,
+            form: pair.form,
+            place,
+            raw,
+        }),
+        Err(fault) => Err(fault),
+    }
+}
+
+/// Puts one more attribute at the list's end.
+fn add_attr<'a>(attrs: &mut Vec<Attr<'a>, &'a Bump>, attr: Attr<'a>) -> Result<(), AllocError>
+    ensures { OnOk result (map attr_view attrs.new.items ≡ map attr_view attrs.old.items ++ attr_view attr.entry ∷ []) }
+{
+    match attrs.push(attr) {
+        Ok(()) => Ok(()),
+        Err(_) => Err(AllocError),
+    }
+}
+
+/// The attributes of the pairs, in the arena.
+pub(crate) fn read_attrs<'a, 'f: 'a>(
+    arena: &'a Bump,
+    cut: &mut Cut<'f>,
+    header: &UnitHeader,
+    pairs: Attrs<'f>,
+) -> Result<&'a [Attr<'a>], UnitRefusal>
+    requires { IsAddressSize header.now.address_size }
+    ensures attrs { AnswersAt (λ s. map attr_view s.now) result (attrs_at (widths_of header.now) pairs.entry) cut.old cut.new }
+    ensures forward { OnOk result (cut.old.place ≤ cut.new.place) }
+{
+    let mut attrs: Vec<Attr<'a>, &'a Bump> = Vec::new(arena);
+    let mut left = pairs;
+    'pairs: while let Some(pair) = left.next() {
+        let attr = match read_attr(cut, header, pair) {
+            Ok(attr) => attr,
+            Err(fault) => return Err(UnitRefusal::Refused(fault)),
+        };
+        match add_attr(&mut attrs, attr) {
+            Ok(()) => {}
+            Err(_) => return Err(UnitRefusal::OutOfMemory),
+        }
+    }
+    Ok(into_bump_slice(attrs))
+}

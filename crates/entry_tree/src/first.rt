@@ -1,0 +1,42 @@
+//! The first entry's code.
+
+ghost use Rattle.std.specs.Prelude.{◌≡◌, ◌<◌, ◌≤◌, IfOk, IfSome};
+ghost use Rattle.dw_fields.specs.Span.{at};
+ghost use Rattle.entry_tree.specs.Entries.{first_code_in};
+
+use dw_fields::{Cut, Fault};
+
+/// A code that isn't 0, its place, and the place behind it.
+#[derive(Clone, Copy, Debug)]
+pub(crate) struct Coded {
+    pub place: u64,
+    pub code: u64,
+    pub next: u64,
+}
+
+/// The first code that isn't 0; the cut then stands behind it.
+#[tactic(auto, unfolding(crate::specs::Entries::first_code_in))]
+pub(crate) fn first_code(cut: &mut Cut<'_>) -> Result<Option<Coded>, Fault>
+    ensures first { result ≡ first_code_in cut.old }
+    ensures behind { IfOk result (λ found. IfSome found (λ root. (cut.new ≡ at cut.old root.next) × (0 < root.code))) }
+{
+    let turns = cut.left();
+    'zeros: for _turn in 0..turns {
+        if cut.left() == 0 {
+            return Ok(None);
+        }
+        let place = cut.place();
+        let code = match cut.uleb() {
+            Ok(code) => code,
+            Err(fault) => return Err(fault),
+        };
+        if code != 0 {
+            return Ok(Some(Coded {
+                place,
+                code,
+                next: cut.place(),
+            }));
+        }
+    }
+    Ok(None)
+}

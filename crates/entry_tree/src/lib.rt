@@ -1,0 +1,20 @@
+//! The debugging information entries of a unit (DWARF 5 sections 2.1 to 2.3 and 7.5.2 to 7.5.4).
+//!
+//! [`read_entries`] reads all entries of a unit into an arena, and [`root_facts`] what the unit's first
+//! entry says of the unit. Both ask a source of declarations, any [`abbrev_decl::Decls`], and their
+//! answers are those of the definitions `entries_of` and `facts_of` of `specs/Units.antt`, which know
+//! no arena and take each declaration as the first of its code in the unit's table. What they leave of
+//! the source and of the counter of steps is part of their contracts.
+#![tactic(auto)]
+
+mod attributes;
+mod declared;
+mod entries;
+mod first;
+mod root;
+mod shapes;
+mod told;
+
+pub use entries::read_entries;
+pub use root::root_facts;
+pub use shapes::{Attr, Entry};

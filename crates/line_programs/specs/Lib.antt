@@ -1,0 +1,6 @@
+pub mod Front
+pub mod Formats
+pub mod Shapes
+pub mod Names
+pub mod Tables
+pub mod Headers

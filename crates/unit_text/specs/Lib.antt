@@ -4,3 +4,4 @@ pub mod UnitLine
 pub mod SectionLine
 pub mod Declarations
 pub mod Tables
+pub mod Lists

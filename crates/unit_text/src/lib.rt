@@ -1,15 +1,17 @@
-//! The texts of units, sections and abbreviation tables, appended to a list of bytes.
+//! The texts of units, sections, abbreviation tables and lists, appended to a list of bytes.
 //!
 //! Each call appends exactly its text. After any refusal the list is as it was; only the text of abbreviation tables stays
 //! up to the fault in them.
 #![tactic(auto)]
 
 mod declaration_text;
+mod lists;
 mod pieces;
 mod section_line;
 mod tables;
 mod unit_line;
 
+pub use lists::write_lists;
 pub use section_line::write_section;
 pub use tables::write_tables;
 pub use unit_line::write_unit_line;

@@ -1,0 +1,18 @@
+use Rattle.std.proofs.Common.{Ok, Err, arith}
+use Rattle.entry_tree.specs.declared.shapes.Entry.{Entry}
+use Rattle.unit_text.specs.Loops.{texts_next, texts_stop, texts_end, texts_map}
+use Rattle.entry_tree.specs.Views.{entry_view}
+use Rattle.unit_text.specs.Lists.{entry_lists, unit_view}
+use Rattle.unit_text.proofs.lists.put_lists.Goals as goal
+
+pub loop-entry-init : goal.loop-entry-init
+loop-entry-init c = λ r new p. rw (texts_map (entry_lists (unit_view c.args.unit.now)) entry_view c.args.entries.now) at p
+
+pub loop-entry-preserved : goal.loop-entry-preserved
+loop-entry-preserved c = λ r new p. c.loop-entry.invariant r new (texts_next (λ (x : Entry). entry_lists (unit_view c.args.unit.now) (entry_view x)) c.args.entries.now c.loop-entry.entry-index _ r _ _ new c.loop-entry-test.true c.in-Ok.ensures p)
+
+pub returns-in-Err : goal.returns-in-Err
+returns-in-Err c = c.loop-entry.invariant (Err c.in-Err.refusal) c.put_entry_lists.new.out.items (texts_stop (λ (x : Entry). entry_lists (unit_view c.args.unit.now) (entry_view x)) c.args.entries.now c.loop-entry.entry-index _ _ _ _ c.loop-entry-test.true c.in-Err.ensures)
+
+pub returns : goal.returns
+returns c = c.loop-entry.invariant (Ok tt) _ (texts_end (λ (x : Entry). entry_lists (unit_view c.args.unit.now) (entry_view x)) c.args.entries.now c.loop-entry.entry-index _ (omega arith))

@@ -1,0 +1,348 @@
+//! The range lists and location lists of a unit's entries.
+ghost use Rattle.std.specs.Prelude.{◌≡◌, ◌++◌, ◌∷◌, [], IsTrue, Ok, map};
+ghost use Rattle.dw_fields.specs.Reading.{IsAddressSize};
+ghost use Rattle.dw_text.specs.Added.{Adds};
+ghost use Rattle.elf_sections.specs.Shapes.{sections_view};
+ghost use Rattle.entry_tree.specs.Views.{attr_view, entry_view};
+ghost use Rattle.form_values.specs.View.{raw_view, is_list};
+ghost use Rattle.range_lists.specs.Locations.{location_view};
+ghost use Rattle.unit_text.specs.Pieces.{Puts, Writes, texts_of};
+ghost use Rattle.unit_text.specs.Lists.{UnitView, unit_view, is_range_list, is_location_list, is_location_attribute, list_place, range_text, range_line, range_list_text, location_list_text, bounds_text, expression_text, location_line, ranges_title, locations_title, ranges_text, locations_text, attr_lists, entry_lists, lists_text};
+
+use crate::pieces::refused;
+use dw_fields::Fault;
+use dw_names::push_attribute_after;
+use dw_text::{push_decimal_after, push_hex_after, push_hex_bytes_after, push_text};
+use elf_sections::Sections;
+use entry_tree::{Attr, Entry};
+use form_values::{Raw, UnitFacts, resolve_list};
+use range_lists::{Location, Range, read_locations, read_ranges};
+use std::alloc::{AllocError, Global};
+use unit_headers::{UnitHeader, UnitRefusal};
+
+/// A unit's header and facts, and the sections that they are of.
+#[derive(Clone, Copy)]
+struct Unit<'a, 'f> {
+    sections: &'a Sections<'f>,
+    header: &'a UnitHeader,
+    facts: &'a UnitFacts,
+}
+
+/// Appends the lists of a unit's entries, in the order of the entries and of their attributes. The
+/// entries and the facts are those of this unit, whose address size is 2, 4 or 8.
+///
+/// # Errors
+/// The first refusal of a list: at the attribute where its value can't be resolved, otherwise where the
+/// list can't be read. Want of memory may come at any time. `out` is then as it was.
+#[tactic(auto, unfolding(crate::specs::Lists::lists_text))]
+pub fn write_lists(
+    alloc: Global,
+    sections: &Sections<'_>,
+    header: &UnitHeader,
+    facts: &UnitFacts,
+    entries: &[Entry<'_>],
+    out: &mut Vec<u8>,
+) -> Result<(), UnitRefusal>
+    requires { IsAddressSize header.now.address_size }
+    ensures { Writes result out.old.items out.new.items (lists_text (record { sections = sections_view sections.now; header = header.now; facts = facts.now }) (map entry_view entries.now)) }
+{
+    let unit = Unit {
+        sections,
+        header,
+        facts,
+    };
+    let before = out.len();
+    match put_lists(alloc, &unit, entries, out) {
+        Ok(()) => Ok(()),
+        Err(refusal) => {
+            out.truncate(before);
+            Err(refusal)
+        }
+    }
+}
+
+fn put_lists(
+    alloc: Global,
+    unit: &Unit<'_, '_>,
+    entries: &[Entry<'_>],
+    out: &mut Vec<u8>,
+) -> Result<(), UnitRefusal>
+    requires { IsAddressSize unit.now.header.now.address_size }
+    ensures { Puts result out.old.items out.new.items (texts_of (entry_lists (unit_view unit.now)) (map entry_view entries.now)) }
+{
+    for entry in entries {
+        match put_entry_lists(alloc, unit, entry, out) {
+            Ok(()) => {}
+            Err(refusal) => return Err(refusal),
+        }
+    }
+    Ok(())
+}
+
+#[tactic(auto, unfolding(crate::specs::Lists::entry_lists))]
+fn put_entry_lists(
+    alloc: Global,
+    unit: &Unit<'_, '_>,
+    entry: &Entry<'_>,
+    out: &mut Vec<u8>,
+) -> Result<(), UnitRefusal>
+    requires { IsAddressSize unit.now.header.now.address_size }
+    ensures { Puts result out.old.items out.new.items (entry_lists (unit_view unit.now) (entry_view entry.now)) }
+{
+    put_attrs_lists(alloc, unit, entry.place, entry.attrs, out)
+}
+
+fn put_attrs_lists(
+    alloc: Global,
+    unit: &Unit<'_, '_>,
+    place: u64,
+    attrs: &[Attr<'_>],
+    out: &mut Vec<u8>,
+) -> Result<(), UnitRefusal>
+    requires { IsAddressSize unit.now.header.now.address_size }
+    ensures { Puts result out.old.items out.new.items (texts_of (attr_lists (unit_view unit.now) place) (map attr_view attrs.now)) }
+{
+    for attr in attrs {
+        match put_list(alloc, unit, place, attr, out) {
+            Ok(()) => {}
+            Err(refusal) => return Err(refusal),
+        }
+    }
+    Ok(())
+}
+
+/// Appends the list of an attribute, if it has one.
+#[tactic(auto, unfolding(crate::specs::Lists::attr_lists))]
+fn put_list(
+    alloc: Global,
+    unit: &Unit<'_, '_>,
+    place: u64,
+    attr: &Attr<'_>,
+    out: &mut Vec<u8>,
+) -> Result<(), UnitRefusal>
+    requires { IsAddressSize unit.now.header.now.address_size }
+    ensures { Puts result out.old.items out.new.items (attr_lists (unit_view unit.now) place (attr_view attr.now)) }
+{
+    if attr.name == 0x55 && is_range_list(&attr.raw) {
+        put_ranges(alloc, unit, place, attr, out)
+    } else if is_location_attribute(attr.name) && is_location_list(&attr.raw) {
+        put_locations(alloc, unit, place, attr, out)
+    } else {
+        Ok(())
+    }
+}
+
+fn is_range_list(raw: &Raw<'_>) -> bool
+    ensures { result ≡ is_range_list (raw_view raw.now) }
+{
+    matches!(raw, Raw::Offset(_) | Raw::RangeIndex(_))
+}
+
+fn is_location_list(raw: &Raw<'_>) -> bool
+    ensures { result ≡ is_location_list (raw_view raw.now) }
+{
+    matches!(raw, Raw::Offset(_) | Raw::LocationIndex(_))
+}
+
+/// The attributes whose value may be a location list.
+#[tactic(auto, unfolding(crate::specs::Lists::is_location_attribute))]
+fn is_location_attribute(name: u64) -> bool
+    ensures { result ≡ is_location_attribute name }
+{
+    matches!(
+        name,
+        0x02 | 0x19 | 0x2a | 0x38 | 0x40 | 0x46 | 0x48 | 0x4a | 0x4d
+    )
+}
+
+/// The place of the list that an attribute stands for.
+#[tactic(auto, unfolding(crate::specs::Lists::list_place))]
+fn place_of_list(unit: &Unit<'_, '_>, attr: &Attr<'_>) -> Result<u64, Fault>
+    requires { IsTrue (is_list (raw_view attr.now.raw)) }
+    ensures { result ≡ list_place (unit_view unit.now) (attr_view attr.now) }
+{
+    match resolve_list(&attr.raw, unit.header, unit.sections, &unit.facts.bases) {
+        Ok(place) => Ok(place),
+        Err(code) => Err(Fault {
+            code,
+            place: attr.place,
+        }),
+    }
+}
+
+#[tactic(auto, unfolding(crate::specs::Lists::ranges_text))]
+fn put_ranges(
+    alloc: Global,
+    unit: &Unit<'_, '_>,
+    place: u64,
+    attr: &Attr<'_>,
+    out: &mut Vec<u8>,
+) -> Result<(), UnitRefusal>
+    requires size { IsAddressSize unit.now.header.now.address_size }
+    requires kind { IsTrue (is_range_list (raw_view attr.now.raw)) }
+    ensures { Puts result out.old.items out.new.items (ranges_text (unit_view unit.now) place (attr_view attr.now)) }
+{
+    let offset = match place_of_list(unit, attr) {
+        Ok(offset) => offset,
+        Err(fault) => return Err(UnitRefusal::Refused(fault)),
+    };
+    let ranges = match read_ranges(alloc, unit.sections, unit.header, unit.facts, offset) {
+        Ok(ranges) => ranges,
+        Err(refusal) => return Err(refusal),
+    };
+    put_range_list(out, place, ranges.as_slice())
+}
+
+#[tactic(auto, unfolding(crate::specs::Lists::range_list_text, crate::specs::Pieces::joined))]
+fn put_range_list(out: &mut Vec<u8>, place: u64, ranges: &[Range]) -> Result<(), UnitRefusal>
+    ensures { Puts result out.old.items out.new.items (range_list_text place ranges.now) }
+{
+    refused(push_ranges_title(out, place))?;
+    put_range_lines(ranges, out)?;
+    Ok(())
+}
+
+#[tactic(auto, unfolding(crate::specs::Lists::ranges_title))]
+fn push_ranges_title(out: &mut Vec<u8>, place: u64) -> Result<(), AllocError>
+    ensures { Adds result out.old.items out.new.items (ranges_title place) }
+{
+    push_hex_after(out, b"ranges of 0x", place)?;
+    push_text(out, b"\n")?;
+    Ok(())
+}
+
+fn put_range_lines(ranges: &[Range], out: &mut Vec<u8>) -> Result<(), UnitRefusal>
+    ensures { Puts result out.old.items out.new.items (texts_of range_line ranges.now) }
+{
+    for range in ranges {
+        match put_range_line(out, range) {
+            Ok(()) => {}
+            Err(refusal) => return Err(refusal),
+        }
+    }
+    Ok(())
+}
+
+#[tactic(auto, unfolding(crate::specs::Lists::range_line))]
+fn put_range_line(out: &mut Vec<u8>, range: &Range) -> Result<(), UnitRefusal>
+    ensures { Puts result out.old.items out.new.items (range_line range.now) }
+{
+    refused(push_range_line(out, range))
+}
+
+fn push_range_line(out: &mut Vec<u8>, range: &Range) -> Result<(), AllocError>
+    ensures { Adds result out.old.items out.new.items (range_text range.now ++ 10 ∷ []) }
+{
+    push_range(out, range)?;
+    push_text(out, b"\n")?;
+    Ok(())
+}
+
+/// Appends the two ends of a range.
+#[tactic(auto, unfolding(crate::specs::Lists::range_text))]
+fn push_range(out: &mut Vec<u8>, range: &Range) -> Result<(), AllocError>
+    ensures { Adds result out.old.items out.new.items (range_text range.now) }
+{
+    push_hex_after(out, b" 0x", range.low)?;
+    push_hex_after(out, b" 0x", range.high)?;
+    Ok(())
+}
+
+#[tactic(auto, unfolding(crate::specs::Lists::locations_text))]
+fn put_locations(
+    alloc: Global,
+    unit: &Unit<'_, '_>,
+    place: u64,
+    attr: &Attr<'_>,
+    out: &mut Vec<u8>,
+) -> Result<(), UnitRefusal>
+    requires size { IsAddressSize unit.now.header.now.address_size }
+    requires kind { IsTrue (is_location_list (raw_view attr.now.raw)) }
+    ensures { Puts result out.old.items out.new.items (locations_text (unit_view unit.now) place (attr_view attr.now)) }
+{
+    let offset = match place_of_list(unit, attr) {
+        Ok(offset) => offset,
+        Err(fault) => return Err(UnitRefusal::Refused(fault)),
+    };
+    let locations = match read_locations(alloc, unit.sections, unit.header, unit.facts, offset) {
+        Ok(locations) => locations,
+        Err(refusal) => return Err(refusal),
+    };
+    put_location_list(out, place, attr.name, locations.as_slice())
+}
+
+#[tactic(auto, unfolding(crate::specs::Lists::location_list_text, crate::specs::Pieces::joined))]
+fn put_location_list(
+    out: &mut Vec<u8>,
+    place: u64,
+    name: u64,
+    locations: &[Location<'_>],
+) -> Result<(), UnitRefusal>
+    ensures { Puts result out.old.items out.new.items (location_list_text place name (map location_view locations.now)) }
+{
+    refused(push_locations_title(out, place, name))?;
+    put_location_lines(locations, out)?;
+    Ok(())
+}
+
+#[tactic(auto, unfolding(crate::specs::Lists::locations_title))]
+fn push_locations_title(out: &mut Vec<u8>, place: u64, name: u64) -> Result<(), AllocError>
+    ensures { Adds result out.old.items out.new.items (locations_title place name) }
+{
+    push_hex_after(out, b"locations of 0x", place)?;
+    push_attribute_after(out, b" ", name)?;
+    push_text(out, b"\n")?;
+    Ok(())
+}
+
+fn put_location_lines(locations: &[Location<'_>], out: &mut Vec<u8>) -> Result<(), UnitRefusal>
+    ensures { Puts result out.old.items out.new.items (texts_of location_line (map location_view locations.now)) }
+{
+    for location in locations {
+        match put_location_line(out, location) {
+            Ok(()) => {}
+            Err(refusal) => return Err(refusal),
+        }
+    }
+    Ok(())
+}
+
+#[tactic(auto, unfolding(crate::specs::Lists::location_line))]
+fn put_location_line(out: &mut Vec<u8>, location: &Location<'_>) -> Result<(), UnitRefusal>
+    ensures { Puts result out.old.items out.new.items (location_line (location_view location.now)) }
+{
+    refused(push_location_line(out, location))
+}
+
+fn push_location_line(out: &mut Vec<u8>, location: &Location<'_>) -> Result<(), AllocError>
+    ensures { Adds result out.old.items out.new.items (bounds_text location.now.range ++ expression_text location.now.expression.now ++ 10 ∷ []) }
+{
+    push_bounds(out, location.range)?;
+    push_expression(out, location.expression)?;
+    push_text(out, b"\n")?;
+    Ok(())
+}
+
+/// Appends the addresses that a location holds for.
+#[tactic(auto, unfolding(crate::specs::Lists::bounds_text))]
+fn push_bounds(out: &mut Vec<u8>, range: Option<Range>) -> Result<(), AllocError>
+    ensures { Adds result out.old.items out.new.items (bounds_text range) }
+{
+    match range {
+        Some(range) => push_range(out, &range),
+        None => push_text(out, b" default"),
+    }
+}
+
+/// Appends how many bytes an expression has, and their digits.
+#[tactic(auto, unfolding(crate::specs::Lists::expression_text))]
+fn push_expression(out: &mut Vec<u8>, bytes: &[u8]) -> Result<(), AllocError>
+    ensures { Adds result out.old.items out.new.items (expression_text bytes.now) }
+{
+    if bytes.is_empty() {
+        return push_text(out, b" 0");
+    }
+    push_decimal_after(out, b" ", bytes.len() as u64)?;
+    push_hex_bytes_after(out, b" ", bytes)?;
+    Ok(())
+}

@@ -3,3 +3,5 @@ pub mod Allowed
 pub mod Exchanges
 pub mod Openings
 pub mod CallFacts
+pub mod WalkLemmas
+pub mod PutLemmas

@@ -42,10 +42,10 @@ impl<F: Facts> Cells<F> {
         ensures tried { KeyTried F.fits cell.generation cell.index key (key_number result) pass.old.knows pass.new.knows }
     {
         let word = key_word(&self.layout, cell);
-        let found = self
+        let before = self
             .table
             .shared
             .compare_exchange::<Claim<F>>(&mut pass.seat, word, 0, key);
-        KeyWord::of(found)
+        KeyWord::of(before)
     }
 }

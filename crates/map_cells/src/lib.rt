@@ -14,6 +14,7 @@ mod pass;
 mod places;
 mod plays;
 mod values;
+mod walks;
 mod words;
 
 pub use about::{About, Facts};
@@ -21,4 +22,5 @@ pub use cells::Cells;
 pub use map_core::{Cell, Layout};
 pub use pass::Pass;
 pub use plays::TheRule;
+pub use walks::Put;
 pub use words::{KeyWord, ValueWord};

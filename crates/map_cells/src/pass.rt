@@ -1,5 +1,6 @@
 //! A pass: what one caller knows of a table.
-ghost use Rattle.std.specs.Prelude.{◌≡◌};
+ghost use Rattle.std.specs.Prelude.{◌≡◌, length};
+ghost use Rattle.map_core.specs.Calls.{own};
 ghost use Rattle.map_core.specs.Passes.{Told, placed};
 
 use crate::about::Facts;
@@ -46,7 +47,8 @@ impl<F: Facts> Pass<F> {
 
     /// How many entries the pass, and those joined into it, have placed.
     pub fn placed(&self) -> u64
-        ensures { result ≡ placed self.now.knows }
+        ensures own { result ≡ length (own self.now.knows) }
+        ensures placed { result ≡ placed self.now.knows }
     {
         self.entries
     }

@@ -19,8 +19,8 @@ use Rattle.map_cells.proofs.cells.Cells.claim.Goals as goal
 pub key_word-word-requires : goal.key_word-word-requires
 key_word-word-requires g c = subst (λ (x : Layout). IsCell x c.args.cell.generation c.args.cell.index) (sym (ap (λ (p : CellsView). p.layout) c.self.view_is)) c.requires.cell
 
-pub compare_exchange-found-requires : goal.compare_exchange-found-requires
-compare_exchange-found-requires g c =
+pub compare_exchange-before-requires : goal.compare_exchange-before-requires
+compare_exchange-before-requires g c =
     let key = c.self.inside.table.shared.key in
     let slots : ℕ = c.self.inside.table.shared.table_id.slots in
     let me = c.pass.inside.seat.me in

@@ -1,0 +1,19 @@
+use Rattle.std.proofs.Common.{◌<◌, ℕ}
+use Rattle.map_core.specs.declared.view.View.{View}
+use Rattle.map_cells.proofs.WalkLemmas.{closed_more, settled_closed}
+use Rattle.map_cells.proofs.PutLemmas.{takes_won, takes_lost}
+use Rattle.map_cells.proofs.cells.Cells.key_taken.Goals as goal
+
+pub claim-requires-clause-settled : goal.claim-requires-clause-settled
+claim-requires-clause-settled g c =
+    let v : View = c.args.pass.now.knows in
+    let u : View = c.key_at.new.pass.knows in
+    settled_closed u c.args.cell.generation c.args.key (closed_more v u c.args.cell.generation c.args.key c.key_at.ensures.seen.looks.steps c.requires.closed c.requires.key.0)
+
+pub returns-in-Empty-claim-clause-takes : goal.returns-in-Empty-claim-clause-takes
+returns-in-Empty-claim-clause-takes g c =
+    takes_won g.F.Facts.fits c.args.cell.generation c.args.cell.index c.args.key c.args.pass.now.knows c.key_at.new.pass.knows c.claim.new.pass.knows c.in-Empty.ensures.seen c.in-Empty-claim.ensures.tried
+
+pub returns-in-Key-claim-clause-takes : goal.returns-in-Key-claim-clause-takes
+returns-in-Key-claim-clause-takes g c =
+    takes_lost g.F.Facts.fits c.args.cell.generation c.args.cell.index c.args.key c.in-Key-claim.found c.args.pass.now.knows c.key_at.new.pass.knows c.claim.new.pass.knows c.requires.free c.in-Key-claim.ensures.word.0 c.in-Empty.ensures.seen c.in-Key-claim.ensures.tried

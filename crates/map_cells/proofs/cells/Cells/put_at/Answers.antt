@@ -1,0 +1,28 @@
+use Rattle.std.proofs.Common.{◌≡◌, ◌<◌, ℕ, sym, subst, ◌∙◌}
+use Rattle.map_core.specs.declared.layout.Layout.{Layout}
+use Rattle.map_core.specs.declared.view.View.{View}
+use Rattle.map_core.specs.Places.{IsCell, key_place}
+use Rattle.map_core.specs.Passes.{look}
+use Rattle.map_cells.proofs.WalkLemmas.{closed_more}
+use Rattle.map_cells.proofs.PutLemmas.{puts_new, puts_found, puts_other}
+use Rattle.map_cells.proofs.cells.Cells.put_at.Goals as goal
+
+pub publish-requires-clause-closed : goal.publish-requires-clause-closed
+publish-requires-clause-closed g c =
+    let v : View = c.args.pass.now.knows in
+    let u : View = c.key_taken-stands.new.pass.knows in
+    closed_more v u c.args.cell.generation c.args.key c.key_taken-stands.ensures.takes.looks.steps c.requires.closed c.requires.key.0
+
+pub returns-in-Unset-clause-put : goal.returns-in-Unset-clause-put
+returns-in-Unset-clause-put g c =
+    let v : View = c.args.pass.now.knows in
+    let u : View = c.key_taken-stands.new.pass.knows in
+    let here : IsCell v.layout c.args.cell.generation c.args.cell.index = subst (λ (l : Layout). IsCell l c.args.cell.generation c.args.cell.index) (sym c.requires.of.layout) c.requires.cell in
+    puts_new g.F.Facts.fits c.args.cell.generation c.args.cell.index c.args.key v u c.publish.new.pass.knows c.key_taken-stands.ensures.takes here c.requires.key (c.key_taken-stands.ensures.seen ∙ c.if-stands-key.false) c.args.value c.requires.value c.in-Unset.ensures.tried
+
+pub returns-in-Value-clause-put : goal.returns-in-Value-clause-put
+returns-in-Value-clause-put g c =
+    let v : View = c.args.pass.now.knows in
+    let u : View = c.key_taken-stands.new.pass.knows in
+    let here : IsCell v.layout c.args.cell.generation c.args.cell.index = subst (λ (l : Layout). IsCell l c.args.cell.generation c.args.cell.index) (sym c.requires.of.layout) c.requires.cell in
+    puts_found g.F.Facts.fits c.args.cell.generation c.args.cell.index c.args.key v u c.publish.new.pass.knows c.key_taken-stands.ensures.takes here c.requires.key (c.key_taken-stands.ensures.seen ∙ c.if-stands-key.false) c.args.value c.in-Value.found c.in-Value.ensures.word c.in-Value.ensures.tried

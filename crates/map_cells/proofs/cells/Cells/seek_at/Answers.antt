@@ -1,0 +1,30 @@
+use Rattle.std.proofs.Common.{◌≡◌, ◌<◌, ℕ, sym, ap, subst, ◌∙◌, refl}
+use Rattle.map_core.specs.declared.view.View.{View}
+use Rattle.map_core.specs.declared.layout.Layout.{Layout}
+use Rattle.map_core.specs.Places.{key_place}
+use Rattle.map_core.specs.Passes.{look}
+use Rattle.map_cells.specs.Steps.{ClosedTo}
+use Rattle.map_cells.proofs.WalkLemmas.{walks_then, key_walks, value_walks, closed_more}
+use Rattle.map_cells.proofs.cells.Cells.seek_at.Goals as goal
+
+pub returns-in-Unset-clause-walk : goal.returns-in-Unset-clause-walk
+returns-in-Unset-clause-walk g c =
+    let v : View = c.args.pass.now.knows in
+    let u : View = c.key_at.new.pass.knows in
+    let w : View = c.value_at.new.pass.knows in
+    walks_then g.F.Facts.fits v u w (key_walks g.F.Facts.fits c.args.cell.generation c.args.cell.index _ v u c.key_at.ensures.seen) (value_walks g.F.Facts.fits c.args.cell.generation c.args.cell.index _ u w c.value_at.ensures.seen)
+
+pub returns-in-Value-clause-walk : goal.returns-in-Value-clause-walk
+returns-in-Value-clause-walk g c =
+    let v : View = c.args.pass.now.knows in
+    let u : View = c.key_at.new.pass.knows in
+    let w : View = c.value_at.new.pass.knows in
+    walks_then g.F.Facts.fits v u w (key_walks g.F.Facts.fits c.args.cell.generation c.args.cell.index _ v u c.key_at.ensures.seen) (value_walks g.F.Facts.fits c.args.cell.generation c.args.cell.index _ u w c.value_at.ensures.seen)
+
+pub returns-in-Unset-clause-sought : goal.returns-in-Unset-clause-sought
+returns-in-Unset-clause-sought g c =
+    let v : View = c.args.pass.now.knows in
+    let u : View = c.key_at.new.pass.knows in
+    let s = c.in-Key.ensures.seen in
+    let key : look u.known (key_place u.layout c.args.cell.generation c.args.cell.index) ≡ c.args.key = ap (λ (x : Layout). look u.known (key_place x c.args.cell.generation c.args.cell.index)) s.looks.steps.layout ∙ (s.word ∙ c.if-found-key.false) in
+    c.in-Unset.ensures.seen.absent c.args.key refl c.requires.key key (closed_more v u c.args.cell.generation c.args.key s.looks.steps c.requires.closed c.requires.key.0)

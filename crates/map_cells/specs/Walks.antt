@@ -1,0 +1,22 @@
+-- What steps one after another leave of a pass, where they add no entry.
+use Rattle.std.specs.Prelude.{◌≡◌, ◌⊎◌, ℕ, List, Option, Some, None}
+use Rattle.map_core.specs.declared.view.View.{View}
+use Rattle.map_core.specs.Passes.{cell, Told}
+use Rattle.map_cells.specs.Steps.{Looks}
+
+module _ (fits : List ℕ → ℕ → ℕ → Type 0) where
+  -- a pass without an open claim has none afterwards
+  pub record Walks (v w : View) : Type 0 where
+    pub looks : Looks v w
+    pub told : Told fits w
+    pub claim : v.claim ≡ None → w.claim ≡ None
+    pub uncounted : w.uncounted ≡ v.uncounted
+    pub counted : w.counted ≡ v.counted
+
+  -- the same, but the cell may have become the pass's open claim
+  pub record Takes (g i : ℕ) (v w : View) : Type 0 where
+    pub looks : Looks v w
+    pub told : Told fits w
+    pub claim : (w.claim ≡ None) ⊎ (w.claim ≡ Some (cell g i))
+    pub uncounted : w.uncounted ≡ v.uncounted
+    pub counted : w.counted ≡ v.counted

@@ -1,7 +1,8 @@
 -- The entries and the facts of a unit of some sections.
-use Rattle.std.specs.Prelude.{List, length, Option, Result}
+use Rattle.std.specs.Prelude.{ℕ, ◌≤◌, List, length, Option, Result}
 use Rattle.dw_fields.specs.declared.fault_code.Fault.{Fault}
 use Rattle.dw_fields.specs.Span.{Span}
+use Rattle.dw_fields.specs.Reading.{IsAddressSize}
 use Rattle.elf_sections.specs.Shapes.{SectionsView}
 use Rattle.unit_headers.specs.declared.fields.UnitHeader.{UnitHeader}
 use Rattle.unit_headers.specs.Headers.{HasShape}
@@ -29,6 +30,19 @@ unfoldable pub facts_of : SectionsView → UnitHeader → Result UnitFacts Fault
 facts_of sections header =
     facts_from header.address_size sections (root_in sections.«abbrev» header.«abbrev» (widths_of header) (area_of sections header))
 
--- the header is that of a unit of these sections
-abbrev pub IsUnitOf : SectionsView → UnitHeader → Type 0
-IsUnitOf sections header = HasShape (length sections.info) (length sections.«abbrev») header.number header
+-- The header is that of a unit of these sections: its area lies in .debug_info, its declarations begin
+-- in .debug_abbrev, and its address size is one that is read.
+pub record IsUnitOf (sections : SectionsView) (header : UnitHeader) : Type 0 where
+  pub address : IsAddressSize header.address_size
+  pub declarations : header.«abbrev» ≤ length sections.«abbrev»
+  pub inside : header.entries ≤ header.end
+  pub ends : header.end ≤ length sections.info
+
+-- what a header that was read says of itself is enough
+pub unit_of_shape : (sections : SectionsView) (header : UnitHeader) (number : ℕ) → HasShape (length sections.info) (length sections.«abbrev») number header → IsUnitOf sections header
+unit_of_shape sections header number shape = record {
+  address = shape.address;
+  declarations = shape.declarations;
+  inside = shape.inside;
+  ends = shape.ends;
+}

@@ -13,6 +13,8 @@ mod entries;
 mod first;
 mod root;
 mod shapes;
+#[cfg(test)]
+mod tests;
 mod told;
 
 pub use entries::read_entries;

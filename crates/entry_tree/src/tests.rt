@@ -1,0 +1,145 @@
+//! A unit with a root and two more entries, and the same unit with wrong bytes.
+
+ghost use Rattle.std.specs.Prelude.{◌≡◌, length};
+ghost use Rattle.elf_sections.specs.Shapes.{sections_view, AreShort};
+
+use crate::{read_entries, root_facts};
+use abbrev_decl::{Scanner, Steps};
+use bumpalo::Bump;
+use dw_fields::{Code, Fault, Order};
+use elf_sections::Sections;
+use std::alloc::Global;
+use std::test::Fail;
+use unit_headers::{Extra, UnitHeader, UnitKind, UnitRefusal};
+
+/// Code 1: compile_unit with children, a name as string and a line offset of one byte twice. Code 2:
+/// variable, a name as string and an implicit file.
+const ABBREV: [u8; 22] = [
+    0x01, 0x11, 0x01, 0x03, 0x08, 0x10, 0x0b, 0x10, 0x0b, 0, 0, 0x02, 0x34, 0, 0x03, 0x08, 0x3a,
+    0x21, 0x7f, 0, 0, 0,
+];
+
+/// From 12 on: a zero at depth 0, the root "a" with the line offsets 7 and 9, "b" below it, the end of
+/// its children, and "c" at depth 0.
+const INFO: [u8; 25] = [
+    0x15, 0, 0, 0, 0x05, 0, 0x01, 0x08, 0, 0, 0, 0, 0, 0x01, 0x61, 0, 7, 9, 0x02, 0x62, 0, 0, 0x02,
+    0x63, 0,
+];
+
+const HEADER: UnitHeader = UnitHeader {
+    number: 0,
+    place: 0,
+    end: 25,
+    wide: false,
+    version: 5,
+    kind: UnitKind::Compile,
+    address_size: 8,
+    abbrev: 0,
+    entries: 12,
+    extra: Extra::Nothing,
+};
+
+fn sections_of<'f>(info: &'f [u8; 25], abbrev: &'f [u8; 22]) -> Sections<'f>
+    ensures info { length (sections_view result).info ≡ 25 }
+    ensures declarations { length (sections_view result).«abbrev» ≡ 22 }
+    ensures same { (sections_view result).«abbrev» ≡ abbrev.entry.now }
+    ensures short { AreShort (sections_view result) }
+{
+    Sections {
+        order: Order::Little,
+        info,
+        abbrev,
+        text: None,
+        line_text: None,
+        text_offsets: None,
+        address: None,
+        range_lists: None,
+        location_lists: None,
+        line: None,
+        ranges: None,
+        locations: None,
+        frame: None,
+    }
+}
+
+/// The refusal of the unit with one byte of `.debug_info` changed.
+fn refusal_with(alloc: Global, place: usize, value: u8) -> Option<UnitRefusal> {
+    let mut info = INFO;
+    if place < 25 {
+        info[place] = value;
+    }
+    let abbrev = ABBREV;
+    let sections = sections_of(&info, &abbrev);
+    let arena = Bump::new(alloc);
+    let mut scanner = Scanner::new(&abbrev);
+    let mut steps = Steps::start(());
+    match read_entries(&arena, &mut scanner, &HEADER, &sections, &mut steps) {
+        Ok(_) => None,
+        Err(refusal) => Some(refusal),
+    }
+}
+
+#[test]
+fn depth_falls_at_a_zero_and_stays_0(rt: HostRuntime) -> Result<(), Fail> {
+    let info = INFO;
+    let abbrev = ABBREV;
+    let sections = sections_of(&info, &abbrev);
+    let arena = Bump::new(rt.alloc());
+    let mut scanner = Scanner::new(&abbrev);
+    let mut steps = Steps::start(());
+    let entries = match read_entries(&arena, &mut scanner, &HEADER, &sections, &mut steps) {
+        Ok(entries) => entries,
+        Err(_) => return Err(Fail::from("refused")),
+    };
+    assert_eq!(rt; entries.len(), 3);
+    let want = [
+        (13, 0, 1, 0x11, 3),
+        (18, 1, 2, 0x34, 2),
+        (22, 0, 2, 0x34, 2),
+    ];
+    for (entry, (place, depth, code, tag, attrs)) in entries.iter().zip(want) {
+        assert_eq!(rt; entry.place, place);
+        assert_eq!(rt; entry.depth, depth);
+        assert_eq!(rt; entry.code, code);
+        assert_eq!(rt; entry.tag, tag);
+        assert_eq!(rt; entry.attrs.len(), attrs);
+    }
+    Ok(())
+}
+
+#[test]
+fn the_first_attribute_of_a_name_tells(rt: HostRuntime) {
+    let info = INFO;
+    let abbrev = ABBREV;
+    let sections = sections_of(&info, &abbrev);
+    let mut scanner = Scanner::new(&abbrev);
+    let mut steps = Steps::start(());
+    match root_facts(&mut scanner, &HEADER, &sections, &mut steps) {
+        Ok(facts) => {
+            assert_eq!(rt; facts.line, Some(7));
+            assert_eq!(rt; facts.root_end, Some(18));
+            assert_eq!(rt; facts.low_pc, None);
+            assert_eq!(rt; facts.bases.text, None);
+        }
+        Err(_) => assert!(rt; false),
+    }
+    assert_eq!(rt; steps.count(), 2);
+}
+
+#[test]
+fn refusals_have_their_places(rt: HostRuntime) {
+    for (place, value, code, at) in [
+        (13, 3, Code::CodeMissing, 13),
+        (18, 5, Code::CodeMissing, 18),
+        (24, 0x41, Code::TextUnended, 23),
+        (12, 0x80, Code::CodeMissing, 12),
+    ] {
+        let want = UnitRefusal::Refused(Fault { code, place: at });
+        assert_eq!(rt;
+            refusal_with(rt.alloc(), place, value),
+            Some(want),
+            "byte {place}"
+        );
+    }
+    assert_eq!(rt; refusal_with(rt.alloc(), 14, 0x62), None);
+}

@@ -1,8 +1,8 @@
 -- The rows of a line program: DWARF 5, section 6.2.5. Its operations are done one after another, from
 -- its first byte to its end.
-use Rattle.std.specs.Prelude.{ℕ, ◌-◌, List, Result, Ok, option_to_list}
+use Rattle.std.specs.Prelude.{◌≡◌, ◌<◌, ◌≤◌, ℕ, zero, suc, ◌-◌, List, [], ◌++◌, Result, Ok, Err, option_to_list}
 use Rattle.dw_fields.specs.declared.fault_code.Fault.{Fault}
-use Rattle.dw_fields.specs.Span.{Span}
+use Rattle.dw_fields.specs.Span.{Span, at}
 use Rattle.dw_fields.specs.Reading.{Reader, ◌>>=◌}
 use Rattle.dw_fields.specs.Walk.{walk}
 use Rattle.line_machine.specs.declared.registers.Row.{Row}
@@ -25,3 +25,25 @@ stepped_at h lengths registers s = do
 -- least one byte.
 unfoldable pub line_rows : Program → List ℕ → Span → Result (List Row) Fault
 line_rows h lengths s = walk (stepped_at h lengths) (s.end - s.place) (fresh h) s
+
+-- The same in the words of the standard: so many operations are read and done one behind another, each
+-- begun before the end, and append these rows.
+abbrev pub StepsStand : Program → List ℕ → ℕ → Row → Span → List Row → Row → Span → Type 0
+StepsStand h lengths zero registers s rows last rest = (rows ≡ []) × (last ≡ registers) × (rest ≡ s)
+StepsStand h lengths (suc turns) registers s rows last rest =
+    (s.place < s.end) × (after : Row) × (next : ℕ) × (made : List Row) × (others : List Row)
+    × (stepped_at h lengths registers s ≡ Ok ((after, made), next)) × (rows ≡ made ++ others)
+    × StepsStand h lengths turns after (at s next) others last rest
+
+-- What ends them: the program's end, or an operation that is refused.
+abbrev pub RunEnds : Program → List ℕ → Row → Span → List Row → Result (List Row) Fault → Type 0
+RunEnds h lengths last rest rows (Ok all) = (rest.end ≤ rest.place) × (all ≡ rows)
+RunEnds h lengths last rest rows (Err f) = (rest.place < rest.end) × (stepped_at h lengths last rest ≡ Err f)
+
+pub record IsRun (h : Program) (lengths : List ℕ) (registers : Row) (s : Span) (answer : Result (List Row) Fault) : Type 0 where
+  pub turns : ℕ
+  pub rows : List Row
+  pub last : Row
+  pub rest : Span
+  pub stand : StepsStand h lengths turns registers s rows last rest
+  pub ends : RunEnds h lengths last rest rows answer

@@ -14,4 +14,4 @@ mod running;
 pub use machine::{Stepped, step};
 pub use operations::{Operation, read_operation};
 pub use registers::{Program, Row};
-pub use running::rows;
+pub use running::{rows, rows_are_those_of_the_operations};

@@ -3,8 +3,8 @@
 ghost use Rattle.std.specs.Prelude.{◌≡◌, ◌+◌, ◌≤◌, [], ◌++◌, length, IfOk, OnOk, option_to_list};
 ghost use Rattle.dw_fields.specs.Reading.{Moves, Reads};
 ghost use Rattle.unit_headers.specs.Refusals.{Answers};
-ghost use Rattle.line_machine.specs.Machine.{IsRunnable};
-ghost use Rattle.line_machine.specs.Running.{line_rows, outcome, stepped_at};
+ghost use Rattle.line_machine.specs.Machine.{IsRunnable, fresh as fresh_of};
+ghost use Rattle.line_machine.specs.Running.{IsRun, line_rows, outcome, stepped_at};
 
 use crate::machine::{Stepped, step};
 use crate::operations::read_operation;
@@ -91,4 +91,13 @@ fn keep(rows: &mut Vec<Row>, row: Option<Row>) -> Result<(), AllocError>
         },
         None => Ok(()),
     }
+}
+
+/// The rows of a program are those of its operations, read and done one behind another from the
+/// start of a sequence up to the program's end, or up to the first that is refused.
+///
+/// This is a law, for proofs; the call does nothing.
+pub fn rows_are_those_of_the_operations(cut: &Cut<'_>, program: &Program, lengths: &[u8])
+    ensures { IsRun program.now lengths.now (fresh_of program.now) cut.now (line_rows program.now lengths.now cut.now) }
+{
 }

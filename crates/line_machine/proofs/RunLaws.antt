@@ -1,0 +1,144 @@
+-- A run of the machine: its operations go forward, so the turns suffice.
+use Rattle.std.proofs.Common.{◌≡◌, ℕ, zero, suc, ◌+◌, ◌-◌, ◌<◌, ◌≤◌, ◌==◌, ◌||◌, Bool, true, false, cond, nat_lt, nat_le, List, [], ◌∷◌, ◌++◌, Result, Ok, Err, IfOk, refl, sym, ap, ◌∙◌, inl, inr, subst, arith}
+use Rattle.std.specs.Prelude.{slice_index}
+use Rattle.std.proofs.lemmas.Bool.Decides.{leb_tells}
+use Rattle.dw_fields.specs.declared.fault_code.Fault.{Fault}
+use Rattle.dw_fields.specs.declared.fault_code.Code.TheVariants.{Truncated, LineTruncated, ExtendedLength}
+use Rattle.dw_fields.specs.Codes.{fault}
+use Rattle.dw_fields.specs.Span.{Span, at, until}
+use Rattle.dw_fields.specs.Reading.{Reader, ◌>>=◌, number_at, uleb_at, sleb_at}
+use Rattle.dw_fields.specs.Answers.{IsPast, next-IfOk, renamed-IfOk, number_at-past, uleb_at-past, sleb_at-past}
+use Rattle.dw_fields.specs.Walk.{walk}
+use Rattle.line_machine.specs.declared.registers.Row.{Row}
+use Rattle.line_machine.specs.declared.registers.Program.{Program}
+use Rattle.line_machine.specs.declared.operations.Operation.{Operation}
+use Rattle.line_machine.specs.declared.operations.Operation.TheVariants as ops
+use Rattle.line_machine.specs.Machine.{fresh, line_step}
+use Rattle.line_machine.specs.Operations.{in_program, with, passed_over, standard_at, within_at, extended_at, operation_at}
+use Rattle.line_machine.specs.Running.{outcome, stepped_at, line_rows, StepsStand, RunEnds, IsRun}
+
+-- the place behind an answer is at least this one
+abbrev From : {X : Type 0} → ℕ → Result (X × ℕ) Fault → Type 0
+From place answer = IfOk answer (λ read. place ≤ read.1)
+
+From-past : {X : Type 0} → (least : ℕ) (s : Span) (answer : Result (X × ℕ) Fault) → IsPast least s answer → From (s.place + least) answer
+From-past least s (Ok read) past = past.0
+From-past least s (Err f) past = tt
+
+From-less : {X : Type 0} → (place least : ℕ) (answer : Result (X × ℕ) Fault) → place ≤ least → From least answer → From place answer
+From-less place least (Ok read) le h = omega arith
+From-less place least (Err f) le h = tt
+
+From-with : {X : Type 0} → (operation : X → Operation) (place : ℕ) (answer : Result (X × ℕ) Fault) → From place answer → From place (with operation answer)
+From-with operation place (Ok read) h = h
+From-with operation place (Err f) h = tt
+
+From-either : {X : Type 0} → (test : Bool) (place : ℕ) (first second : Result (X × ℕ) Fault) → From place first → From place second → From place (cond test first second)
+From-either true place first second h k = h
+From-either false place first second h k = k
+
+From-in_program : {X : Type 0} → (place : ℕ) (answer : Result (X × ℕ) Fault) → From place answer → From place (in_program answer)
+From-in_program place (Ok read) h = h
+From-in_program place (Err f) h = tt
+
+uleb_from : (s : Span) → From s.place (uleb_at s)
+uleb_from s = From-less s.place (s.place + 1) (uleb_at s) (omega arith) (From-past 1 s (uleb_at s) (uleb_at-past s))
+
+sleb_from : (s : Span) → From s.place (sleb_at s)
+sleb_from s = From-less s.place (s.place + 1) (sleb_at s) (omega arith) (From-past 1 s (sleb_at s) (sleb_at-past s))
+
+number_from : (n : ℕ) (s : Span) → From s.place (number_at n s)
+number_from n s = From-less s.place (s.place + n) (number_at n s) (omega arith) (From-past n s (number_at n s) (number_at-past n s))
+
+passed_from : (n : ℕ) (s : Span) → From s.place (passed_over n s)
+unfolding passed_over
+passed_from zero s = omega arith
+passed_from (suc n) s =
+    next-IfOk (λ r. s.place ≤ r.1) (λ r. s.place ≤ r.1) (uleb_at s) _ (uleb_from s)
+      (λ operand le. From-less s.place operand.1 (passed_over n (at s operand.1)) le (passed_from n (at s operand.1)))
+
+standard_from : (lengths : List ℕ) (opcode : ℕ) (s : Span) → From s.place (standard_at lengths opcode s)
+unfolding standard_at
+standard_from lengths opcode s =
+    let here : s.place ≤ s.place = omega arith in
+    From-either (opcode == 1) s.place _ _ here
+    (From-either (opcode == 2) s.place _ _ (From-with ops.AdvancePc s.place (uleb_at s) (uleb_from s))
+    (From-either (opcode == 3) s.place _ _ (From-with ops.AdvanceLine s.place (sleb_at s) (sleb_from s))
+    (From-either (opcode == 4) s.place _ _ (From-with ops.SetFile s.place (uleb_at s) (uleb_from s))
+    (From-either (opcode == 5) s.place _ _ (From-with ops.SetColumn s.place (uleb_at s) (uleb_from s))
+    (From-either (opcode == 6) s.place _ _ here
+    (From-either (opcode == 7) s.place _ _ here
+    (From-either (opcode == 8) s.place _ _ here
+    (From-either (opcode == 9) s.place _ _ (From-with ops.FixedAdvancePc s.place (number_at 2 s) (number_from 2 s))
+    (From-either (opcode == 10) s.place _ _ here
+    (From-either (opcode == 11) s.place _ _ here
+    (From-either (opcode == 12) s.place _ _ (From-with ops.SetIsa s.place (uleb_at s) (uleb_from s))
+    (passed_from (slice_index lengths (opcode - 1)) s))))))))))))
+
+within_from : (place size : ℕ) (answer : Result (Operation × ℕ) Fault) → From place (answer >>= (λ operation. Ok (operation.0, place + size)))
+within_from place size (Ok operation) = omega arith
+within_from place size (Err f) = tt
+
+extended_from : (s : Span) → From s.place (extended_at s)
+unfolding extended_at
+extended_from s =
+    next-IfOk (λ r. s.place ≤ r.1) (λ r. s.place ≤ r.1) (in_program (uleb_at s)) _ (From-in_program s.place (uleb_at s) (uleb_from s))
+      (λ count le. From-either (count.0 == 0) s.place _ _ tt
+        (From-either (nat_lt s.end (count.1 + count.0)) s.place _ _ tt
+          (From-less s.place count.1 _ le (within_from count.1 count.0 (within_at s.place (until (at s count.1) (count.1 + count.0)))))))
+
+operation_from : (h : Program) (lengths : List ℕ) (s : Span) → From (s.place + 1) (operation_at h lengths s)
+unfolding operation_at
+operation_from h lengths s =
+    next-IfOk (λ r. s.place + 1 ≤ r.1) (λ r. s.place + 1 ≤ r.1) (in_program (number_at 1 s)) _
+      (From-in_program (s.place + 1) (number_at 1 s) (From-past 1 s (number_at 1 s) (number_at-past 1 s)))
+      (λ opcode le. From-either (nat_le h.opcode_base opcode.0) (s.place + 1) _ _ le
+        (From-either (opcode.0 == 0) (s.place + 1) _ _ (From-less (s.place + 1) opcode.1 _ le (extended_from (at s opcode.1)))
+          (From-less (s.place + 1) opcode.1 _ le (From-in_program opcode.1 (standard_at lengths opcode.0 (at s opcode.1)) (standard_from lengths opcode.0 (at s opcode.1))))))
+
+stepped_from : (h : Program) (lengths : List ℕ) (registers : Row) (s : Span) → From (s.place + 1) (stepped_at h lengths registers s)
+unfolding stepped_at
+stepped_from h lengths registers s =
+    next-IfOk (λ r. s.place + 1 ≤ r.1) (λ r. s.place + 1 ≤ r.1) (operation_at h lengths s) _ (operation_from h lengths s) (λ operation le. le)
+
+-- one turn in front of a run
+one_more : (h : Program) (lengths : List ℕ) (registers after : Row) (s : Span) (made : List Row) (next : ℕ) (answer : Result (List Row) Fault)
+    → s.place < s.end → stepped_at h lengths registers s ≡ Ok ((after, made), next) → IsRun h lengths after (at s next) answer
+    → IsRun h lengths registers s (answer >>= (λ others. Ok (made ++ others)))
+one_more h lengths registers after s made next (Ok all) inside e run = record {
+    turns = suc run.turns; rows = made ++ run.rows; last = run.last; rest = run.rest;
+    stand = (inside, after, next, made, run.rows, e, refl, run.stand);
+    ends = (run.ends.0, ap (λ rows. made ++ rows) run.ends.1)
+  }
+one_more h lengths registers after s made next (Err f) inside e run = record {
+    turns = suc run.turns; rows = made ++ run.rows; last = run.last; rest = run.rest;
+    stand = (inside, after, next, made, run.rows, e, refl, run.stand);
+    ends = run.ends
+  }
+
+turn : (h : Program) (lengths : List ℕ) (registers : Row) (s : Span) (found : Result ((Row × List Row) × ℕ) Fault) (others : Row → ℕ → Result (List Row) Fault)
+    → s.place < s.end → stepped_at h lengths registers s ≡ found → From (s.place + 1) found
+    → ((after : Row) (next : ℕ) → s.place < next → IsRun h lengths after (at s next) (others after next))
+    → IsRun h lengths registers s (found >>= (λ read. others read.0.0 read.1 >>= (λ rest. Ok (read.0.1 ++ rest))))
+turn h lengths registers s (Ok ((after, made), next)) others inside e from rest = one_more h lengths registers after s made next (others after next) inside e (rest after next (omega arith))
+turn h lengths registers s (Err f) others inside e from rest = record { turns = 0; rows = []; last = registers; rest = s; stand = (refl, refl, refl); ends = (inside, e) }
+
+stopped : (h : Program) (lengths : List ℕ) (registers : Row) (s : Span) → s.end ≤ s.place → IsRun h lengths registers s (Ok [])
+stopped h lengths registers s past = record { turns = 0; rows = []; last = registers; rest = s; stand = (refl, refl, refl); ends = (past, refl) }
+
+IsRun-same : (h : Program) (lengths : List ℕ) (registers : Row) (s : Span) (a b : Result (List Row) Fault) → a ≡ b → IsRun h lengths registers s a → IsRun h lengths registers s b
+IsRun-same h lengths registers s a b e run = let P : Result (List Row) Fault → Type 0 = λ r. IsRun h lengths registers s r in subst P e run
+
+run_from : (n : ℕ) (h : Program) (lengths : List ℕ) (registers : Row) (s : Span) → s.end ≤ s.place + n → IsRun h lengths registers s (walk (stepped_at h lengths) n registers s)
+unfolding walk
+run_from zero h lengths registers s fits = stopped h lengths registers s (omega arith)
+run_from (suc n) h lengths registers s fits =
+    elim (leb_tells s.end s.place) [
+      inl past ↦ rw past.0 (stopped h lengths registers s past.1)
+    | inr before ↦ rw before.0 (turn h lengths registers s (stepped_at h lengths registers s) (λ after next. walk (stepped_at h lengths) n after (at s next)) before.1 refl
+        (stepped_from h lengths registers s) (λ after next further. run_from n h lengths after (at s next) (omega arith))) ]
+
+-- the rows of a program are those of a run from its start
+pub rows_run : (h : Program) (lengths : List ℕ) (s : Span) → IsRun h lengths (fresh h) s (line_rows h lengths s)
+unfolding line_rows
+rows_run h lengths s = run_from (s.end - s.place) h lengths (fresh h) s (omega arith)

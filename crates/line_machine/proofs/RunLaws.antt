@@ -1,21 +1,19 @@
 -- A run of the machine: its operations go forward, so the turns suffice.
-use Rattle.std.proofs.Common.{◌≡◌, ℕ, zero, suc, ◌+◌, ◌-◌, ◌<◌, ◌≤◌, ◌==◌, ◌||◌, Bool, true, false, cond, nat_lt, nat_le, List, [], ◌∷◌, ◌++◌, Result, Ok, Err, IfOk, refl, sym, ap, ◌∙◌, inl, inr, subst, arith}
+use Rattle.std.proofs.Common.{◌≡◌, ℕ, zero, suc, ◌+◌, ◌-◌, ◌<◌, ◌≤◌, ◌==◌, Bool, true, false, cond, nat_lt, nat_le, List, [], ◌++◌, Result, Ok, Err, IfOk, refl, ap, inl, inr, subst, arith}
 use Rattle.std.specs.Prelude.{slice_index}
 use Rattle.std.proofs.lemmas.Bool.Decides.{leb_tells}
 use Rattle.dw_fields.specs.declared.fault_code.Fault.{Fault}
-use Rattle.dw_fields.specs.declared.fault_code.Code.TheVariants.{Truncated, LineTruncated, ExtendedLength}
-use Rattle.dw_fields.specs.Codes.{fault}
 use Rattle.dw_fields.specs.Span.{Span, at, until}
-use Rattle.dw_fields.specs.Reading.{Reader, ◌>>=◌, number_at, uleb_at, sleb_at}
-use Rattle.dw_fields.specs.Answers.{IsPast, next-IfOk, renamed-IfOk, number_at-past, uleb_at-past, sleb_at-past}
+use Rattle.dw_fields.specs.Reading.{◌>>=◌, number_at, uleb_at, sleb_at}
+use Rattle.dw_fields.specs.Answers.{IsPast, next-IfOk, number_at-past, uleb_at-past, sleb_at-past}
 use Rattle.dw_fields.specs.Walk.{walk}
 use Rattle.line_machine.specs.declared.registers.Row.{Row}
 use Rattle.line_machine.specs.declared.registers.Program.{Program}
 use Rattle.line_machine.specs.declared.operations.Operation.{Operation}
 use Rattle.line_machine.specs.declared.operations.Operation.TheVariants as ops
-use Rattle.line_machine.specs.Machine.{fresh, line_step}
+use Rattle.line_machine.specs.Machine.{fresh}
 use Rattle.line_machine.specs.Operations.{in_program, with, passed_over, standard_at, within_at, extended_at, operation_at}
-use Rattle.line_machine.specs.Running.{outcome, stepped_at, line_rows, StepsStand, RunEnds, IsRun}
+use Rattle.line_machine.specs.Running.{stepped_at, line_rows, IsRun}
 
 -- the place behind an answer is at least this one
 abbrev From : {X : Type 0} → ℕ → Result (X × ℕ) Fault → Type 0
@@ -55,7 +53,7 @@ unfolding passed_over
 passed_from zero s = omega arith
 passed_from (suc n) s =
     next-IfOk (λ r. s.place ≤ r.1) (λ r. s.place ≤ r.1) (uleb_at s) _ (uleb_from s)
-      (λ operand le. From-less s.place operand.1 (passed_over n (at s operand.1)) le (passed_from n (at s operand.1)))
+    (λ operand le. From-less s.place operand.1 (passed_over n (at s operand.1)) le (passed_from n (at s operand.1)))
 
 standard_from : (lengths : List ℕ) (opcode : ℕ) (s : Span) → From s.place (standard_at lengths opcode s)
 unfolding standard_at
@@ -83,18 +81,18 @@ extended_from : (s : Span) → From s.place (extended_at s)
 unfolding extended_at
 extended_from s =
     next-IfOk (λ r. s.place ≤ r.1) (λ r. s.place ≤ r.1) (in_program (uleb_at s)) _ (From-in_program s.place (uleb_at s) (uleb_from s))
-      (λ count le. From-either (count.0 == 0) s.place _ _ tt
-        (From-either (nat_lt s.end (count.1 + count.0)) s.place _ _ tt
-          (From-less s.place count.1 _ le (within_from count.1 count.0 (within_at s.place (until (at s count.1) (count.1 + count.0)))))))
+    (λ count le. From-either (count.0 == 0) s.place _ _ tt
+    (From-either (nat_lt s.end (count.1 + count.0)) s.place _ _ tt
+    (From-less s.place count.1 _ le (within_from count.1 count.0 (within_at s.place (until (at s count.1) (count.1 + count.0)))))))
 
 operation_from : (h : Program) (lengths : List ℕ) (s : Span) → From (s.place + 1) (operation_at h lengths s)
 unfolding operation_at
 operation_from h lengths s =
     next-IfOk (λ r. s.place + 1 ≤ r.1) (λ r. s.place + 1 ≤ r.1) (in_program (number_at 1 s)) _
-      (From-in_program (s.place + 1) (number_at 1 s) (From-past 1 s (number_at 1 s) (number_at-past 1 s)))
-      (λ opcode le. From-either (nat_le h.opcode_base opcode.0) (s.place + 1) _ _ le
-        (From-either (opcode.0 == 0) (s.place + 1) _ _ (From-less (s.place + 1) opcode.1 _ le (extended_from (at s opcode.1)))
-          (From-less (s.place + 1) opcode.1 _ le (From-in_program opcode.1 (standard_at lengths opcode.0 (at s opcode.1)) (standard_from lengths opcode.0 (at s opcode.1))))))
+    (From-in_program (s.place + 1) (number_at 1 s) (From-past 1 s (number_at 1 s) (number_at-past 1 s)))
+    (λ opcode le. From-either (nat_le h.opcode_base opcode.0) (s.place + 1) _ _ le
+    (From-either (opcode.0 == 0) (s.place + 1) _ _ (From-less (s.place + 1) opcode.1 _ le (extended_from (at s opcode.1)))
+    (From-less (s.place + 1) opcode.1 _ le (From-in_program opcode.1 (standard_at lengths opcode.0 (at s opcode.1)) (standard_from lengths opcode.0 (at s opcode.1))))))
 
 stepped_from : (h : Program) (lengths : List ℕ) (registers : Row) (s : Span) → From (s.place + 1) (stepped_at h lengths registers s)
 unfolding stepped_at
@@ -106,15 +104,21 @@ one_more : (h : Program) (lengths : List ℕ) (registers after : Row) (s : Span)
     → s.place < s.end → stepped_at h lengths registers s ≡ Ok ((after, made), next) → IsRun h lengths after (at s next) answer
     → IsRun h lengths registers s (answer >>= (λ others. Ok (made ++ others)))
 one_more h lengths registers after s made next (Ok all) inside e run = record {
-    turns = suc run.turns; rows = made ++ run.rows; last = run.last; rest = run.rest;
-    stand = (inside, after, next, made, run.rows, e, refl, run.stand);
-    ends = (run.ends.0, ap (λ rows. made ++ rows) run.ends.1)
-  }
+  turns = suc run.turns;
+  rows = made ++ run.rows;
+  last = run.last;
+  rest = run.rest;
+  stand = (inside, after, next, made, run.rows, e, refl, run.stand);
+  ends = (run.ends.0, ap (λ rows. made ++ rows) run.ends.1);
+}
 one_more h lengths registers after s made next (Err f) inside e run = record {
-    turns = suc run.turns; rows = made ++ run.rows; last = run.last; rest = run.rest;
-    stand = (inside, after, next, made, run.rows, e, refl, run.stand);
-    ends = run.ends
-  }
+  turns = suc run.turns;
+  rows = made ++ run.rows;
+  last = run.last;
+  rest = run.rest;
+  stand = (inside, after, next, made, run.rows, e, refl, run.stand);
+  ends = run.ends;
+}
 
 turn : (h : Program) (lengths : List ℕ) (registers : Row) (s : Span) (found : Result ((Row × List Row) × ℕ) Fault) (others : Row → ℕ → Result (List Row) Fault)
     → s.place < s.end → stepped_at h lengths registers s ≡ found → From (s.place + 1) found
@@ -134,9 +138,10 @@ unfolding walk
 run_from zero h lengths registers s fits = stopped h lengths registers s (omega arith)
 run_from (suc n) h lengths registers s fits =
     elim (leb_tells s.end s.place) [
-      inl past ↦ rw past.0 (stopped h lengths registers s past.1)
-    | inr before ↦ rw before.0 (turn h lengths registers s (stepped_at h lengths registers s) (λ after next. walk (stepped_at h lengths) n after (at s next)) before.1 refl
-        (stepped_from h lengths registers s) (λ after next further. run_from n h lengths after (at s next) (omega arith))) ]
+      | inl past ↦ rw past.0 (stopped h lengths registers s past.1)
+      | inr before ↦ rw before.0 (turn h lengths registers s (stepped_at h lengths registers s) (λ after next. walk (stepped_at h lengths) n after (at s next)) before.1 refl
+          (stepped_from h lengths registers s) (λ after next further. run_from n h lengths after (at s next) (omega arith)))
+    ]
 
 -- the rows of a program are those of a run from its start
 pub rows_run : (h : Program) (lengths : List ℕ) (s : Span) → IsRun h lengths (fresh h) s (line_rows h lengths s)

@@ -99,5 +99,4 @@ fn keep(rows: &mut Vec<Row>, row: Option<Row>) -> Result<(), AllocError>
 /// This is a law, for proofs; the call does nothing.
 pub fn rows_are_those_of_the_operations(cut: &Cut<'_>, program: &Program, lengths: &[u8])
     ensures { IsRun program.now lengths.now (fresh_of program.now) cut.now (line_rows program.now lengths.now cut.now) }
-{
-}
+{}

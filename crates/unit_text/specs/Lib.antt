@@ -5,3 +5,5 @@ pub mod SectionLine
 pub mod Declarations
 pub mod Tables
 pub mod Lists
+pub mod Values
+pub mod Units

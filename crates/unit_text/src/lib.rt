@@ -10,8 +10,11 @@ mod pieces;
 mod section_line;
 mod tables;
 mod unit_line;
+mod units;
+mod values;
 
 pub use lists::write_lists;
 pub use section_line::write_section;
 pub use tables::write_tables;
 pub use unit_line::write_unit_line;
+pub use units::write_unit;

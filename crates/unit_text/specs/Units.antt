@@ -1,0 +1,34 @@
+-- The text of a unit that was read, as our text format has it: the unit's line, and for each entry a line and a line for
+-- each attribute. It is refused where a value can't be resolved: the first in the order of entries and attributes.
+use Rattle.std.specs.Prelude.{ℕ, List, [], ◌∷◌, ◌++◌, Ok, codes}
+use Rattle.dw_text.specs.Added.{labelled}
+use Rattle.dw_text.specs.Numbers.{decimal, hex}
+use Rattle.dw_names.specs.Texts.{tag_text, attribute_text}
+use Rattle.unit_headers.specs.declared.fields.UnitHeader.{UnitHeader}
+use Rattle.elf_sections.specs.Shapes.{SectionsView}
+use Rattle.form_values.specs.declared.raw.Bases.{Bases}
+use Rattle.entry_tree.specs.Views.{AttrView, EntryView}
+use Rattle.unit_text.specs.Pieces.{Text, joined, texts_of}
+use Rattle.unit_text.specs.UnitLine.{unit_line}
+use Rattle.unit_text.specs.Values.{value_text}
+
+-- the entry's place, depth and tag
+unfoldable pub entry_line : EntryView → List ℕ
+entry_line entry = labelled (codes "[0x") (hex entry.place) ++ labelled (codes "] ") (decimal entry.depth) ++ labelled (codes " ") (tag_text entry.tag) ++ (10 ∷ [])
+
+module _ (header : UnitHeader) (sections : SectionsView) (bases : Bases) where
+  -- the attribute's name and its value
+  unfoldable pub attr_text : AttrView → Text
+  attr_text attr = joined (Ok (labelled (codes "  ") (attribute_text attr.name))) (joined (value_text header sections bases attr.place attr.raw) (Ok (10 ∷ [])))
+
+  unfoldable pub attrs_text : List AttrView → Text
+  attrs_text attrs = texts_of attr_text attrs
+
+  unfoldable pub entry_text : EntryView → Text
+  entry_text entry = joined (Ok (entry_line entry)) (attrs_text entry.attrs)
+
+  unfoldable pub entries_text : List EntryView → Text
+  entries_text entries = texts_of entry_text entries
+
+  unfoldable pub read_unit_text : List EntryView → Text
+  read_unit_text entries = joined (Ok (unit_line header)) (entries_text entries)

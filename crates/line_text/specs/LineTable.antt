@@ -1,0 +1,33 @@
+-- The text of a unit's line table, or the first refusal of its line program.
+use Rattle.std.specs.Prelude.{ℕ, List, [], ◌∷◌, ◌++◌, Option, Some, None, Result, Ok, Err, codes}
+use Rattle.dw_fields.specs.Reading.{◌>>=◌}
+use Rattle.dw_text.specs.Added.{labelled}
+use Rattle.dw_text.specs.Numbers.{decimal, hex}
+use Rattle.elf_sections.specs.Shapes.{SectionsView}
+use Rattle.line_machine.specs.declared.registers.Row.{Row}
+use Rattle.line_machine.specs.Running.{line_rows}
+use Rattle.line_programs.specs.Headers.{line_header_of}
+use Rattle.line_programs.specs.Shapes.{LineView}
+use Rattle.unit_headers.specs.declared.fields.UnitHeader.{UnitHeader}
+use Rattle.unit_text.specs.Pieces.{Text}
+use Rattle.line_text.specs.Names.{directories_text, files_text}
+use Rattle.line_text.specs.Rows.{rows_text}
+
+-- the head of the table of a unit, at an offset of `.debug_line`
+unfoldable pub head_line : ℕ → ℕ → List ℕ
+head_line unit offset = labelled (codes "lines of unit ") (decimal unit) ++ labelled (codes " at 0x") (hex offset) ++ labelled (10 ∷ []) []
+
+unfoldable pub table_text : ℕ → ℕ → LineView → List Row → List ℕ
+table_text unit offset program rows = head_line unit offset ++ directories_text program.directories ++ files_text program.files ++ rows_text rows
+
+-- the table at an offset
+unfoldable pub line_table_text : SectionsView → UnitHeader → ℕ → Text
+line_table_text s header offset = do
+  program ← line_header_of s header.address_size offset
+  rows ← line_rows program.program program.lengths program.code
+  Ok (table_text header.number offset program rows)
+
+-- the table of a unit, where it has a line offset
+abbrev pub lines_text : SectionsView → UnitHeader → Option ℕ → Text
+lines_text s header None = Ok []
+lines_text s header (Some offset) = line_table_text s header offset

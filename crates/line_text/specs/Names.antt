@@ -1,0 +1,23 @@
+-- The lines of a line table's directories and files, numbered from 0.
+use Rattle.std.specs.Prelude.{ℕ, ◌+◌, List, [], ◌∷◌, ◌++◌, codes}
+use Rattle.dw_text.specs.Added.{labelled}
+use Rattle.dw_text.specs.Escapes.{escaped}
+use Rattle.dw_text.specs.Numbers.{decimal}
+use Rattle.line_programs.specs.Shapes.{NameView}
+use Rattle.line_text.specs.Numbered.{numbered}
+
+-- a quoted text, and the end of the line
+unfoldable pub quoted_end : List ℕ → List ℕ
+quoted_end text = labelled (codes " \"") (escaped text) ++ labelled (34 ∷ 10 ∷ []) []
+
+unfoldable pub directory_line : ℕ → List ℕ → List ℕ
+directory_line number path = labelled (codes "dir ") (decimal number) ++ quoted_end path
+
+abbrev pub directories_text : List (List ℕ) → List ℕ
+directories_text paths = numbered directory_line 0 paths
+
+unfoldable pub file_line : ℕ → NameView → List ℕ
+file_line number file = labelled (codes "file ") (decimal number) ++ labelled (codes " ") (decimal file.directory) ++ quoted_end file.path
+
+abbrev pub files_text : List NameView → List ℕ
+files_text files = numbered file_line 0 files

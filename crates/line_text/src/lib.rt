@@ -1,0 +1,11 @@
+//! The texts of line tables (DWARF 5, section 6.2), appended to a list of bytes.
+//!
+//! [`write_lines`] reads a unit's line program and appends its directories, its files and its rows. After
+//! any refusal the list is as it was. A row takes no memory of its own but the list's growth.
+#![tactic(auto)]
+
+mod line_table;
+mod names;
+mod row_text;
+
+pub use line_table::write_lines;

@@ -1,5 +1,5 @@
 -- One link more of the chain.
-use Rattle.std.proofs.Common.{◌≡◌, sym, ◌∙◌, ap, refl, ℕ, zero, suc, ◌+◌, ◌-◌, ◌<◌, ◌≤◌, Bool, List, [], ◌∷◌, ◌++◌, length, append_assoc, append-nil, le-leb, arith}
+use Rattle.std.proofs.Common.{◌≡◌, sym, ◌∙◌, ap, refl, ℕ, zero, suc, ◌+◌, ◌<◌, ◌≤◌, Bool, List, [], ◌∷◌, ◌++◌, length, append_assoc, append-nil, le-leb}
 use Rattle.std.proofs.lemmas.Bool.{lt-leb}
 use Rattle.dw_fields.specs.declared.byte_order.Order.{Order}
 use Rattle.dw_fields.specs.declared.fault_code.Fault.{Fault}

@@ -1,6 +1,6 @@
 -- Unit headers of version 5 (DWARF 5 section 7.5.1): the fields behind the length in their order, and
 -- the first refusal. A field that passes the unit's end is refused at its first byte.
-use Rattle.std.specs.Prelude.{◌≡◌, ℕ, ◌+◌, ◌<◌, ◌≤◌, ◌==◌, not, nat_lt, Bool, List, length, get_or, Result, Ok, Err}
+use Rattle.std.specs.Prelude.{◌≡◌, ℕ, ◌+◌, ◌≤◌, ◌==◌, not, nat_lt, Bool, List, length, get_or, Result, Ok, Err}
 use Rattle.dw_fields.specs.declared.byte_order.Order.{Order}
 use Rattle.dw_fields.specs.declared.fault_code.Code.TheVariants.{UnitTruncated, UnitVersion, AddressSize, AbbrevOutside}
 use Rattle.dw_fields.specs.declared.fault_code.Fault.{Fault}

@@ -3,7 +3,7 @@ use Rattle.std.specs.Prelude.{◌≡◌, ℕ, ◌==◌, Bool, if◌then◌else�
 use Rattle.dw_fields.specs.declared.fault_code.Code.TheVariants.{Truncated, UnitTruncated, UnitType}
 use Rattle.dw_fields.specs.declared.fault_code.Fault.{Fault}
 use Rattle.dw_fields.specs.Codes.{fault}
-use Rattle.dw_fields.specs.Span.{Span, at}
+use Rattle.dw_fields.specs.Span.{at}
 use Rattle.dw_fields.specs.Reading.{Reader, ◌>>=◌, number_at, offset_at, renamed}
 use Rattle.unit_headers.specs.declared.kind.Extra.{Extra}
 use Rattle.unit_headers.specs.declared.kind.Extra.TheVariants.{Nothing, Id, Signature}

@@ -1,26 +1,24 @@
 -- Laws on the chain of units and on their headers.
-use Rattle.std.specs.Prelude.{◌≡◌, ℕ, zero, suc, ◌+◌, ◌-◌, ◌<◌, ◌≤◌, ◌==◌, not, nat_le, nat_lt, Bool, true, false, cond, List, [], ◌∷◌, length, get_or, Result, Ok, Err, IfOk, refl}
-use Rattle.std.proofs.Common.{sym, ◌∙◌, ap, subst, arith, le-leb, leb-true, leb-false, ltb-false, eqb-true, eqb→eq}
-use Rattle.std.proofs.lemmas.Bool.{lt-leb}
+use Rattle.std.specs.Prelude.{◌≡◌, ℕ, zero, suc, ◌+◌, ◌<◌, ◌≤◌, ◌==◌, not, nat_le, nat_lt, Bool, true, false, cond, List, [], ◌∷◌, length, get_or, Result, Ok, Err, IfOk, refl}
+use Rattle.std.proofs.Common.{sym, ◌∙◌, ap, subst, arith, leb-true, ltb-false, eqb-true}
 use Rattle.std.proofs.lemmas.List.{get_or_default}
 use Rattle.std.proofs.lemmas.Bool.Decides.{nat_tests}
 use Rattle.dw_fields.specs.declared.byte_order.Order.{Order}
 use Rattle.dw_fields.specs.declared.cursor.Length.{Length}
-use Rattle.dw_fields.specs.declared.fault_code.Code.TheVariants.{Truncated, UnitTruncated, UnitVersion, UnitType, UnitLimit, AddressSize, AbbrevOutside}
+use Rattle.dw_fields.specs.declared.fault_code.Code.TheVariants.{Truncated, UnitTruncated, UnitVersion, UnitLimit, AddressSize, AbbrevOutside}
 use Rattle.dw_fields.specs.declared.fault_code.Fault.{Fault}
 use Rattle.dw_fields.specs.Codes.{fault}
 use Rattle.dw_fields.specs.Span.{Span, at}
-use Rattle.dw_fields.specs.Reading.{◌>>=◌, IsAddressSize, Reader, is_address_size, length_at, number_at, offset_at, refuse, renamed}
+use Rattle.dw_fields.specs.Reading.{◌>>=◌, IsAddressSize, is_address_size, length_at, number_at, offset_at, refuse}
 use Rattle.dw_fields.specs.Answers.{is_address_size-true, length_at-past, next-IfOk, number_at-past, offset_at-past, refuse-IfOk, renamed-IfOk}
 use Rattle.unit_headers.specs.declared.chain.Link.{Link}
 use Rattle.unit_headers.specs.declared.chain.Link.TheVariants.{Whole, Broken}
 use Rattle.unit_headers.specs.declared.fields.UnitHeader.{UnitHeader}
-use Rattle.unit_headers.specs.declared.kind.Extra.{Extra}
 use Rattle.unit_headers.specs.declared.kind.Extra.TheVariants.{Id, Signature}
 use Rattle.unit_headers.specs.declared.kind.UnitKind.{UnitKind}
 use Rattle.unit_headers.specs.declared.kind.UnitKind.TheVariants.{Compile, TypeUnit, Partial, Skeleton, SplitCompile, SplitType}
 use Rattle.unit_headers.specs.Kinds.{HasExtraOf, extra_at, id_at, in_unit, kind_of, signature_at}
-use Rattle.unit_headers.specs.Links.{LeadsOn, Tile, followed, link_at, link_of, links_from, section_from, unit_chain, whole_link}
+use Rattle.unit_headers.specs.Links.{LeadsOn, Tile, followed, link_at, link_of, links_from, section_from, unit_chain}
 use Rattle.unit_headers.specs.Headers.{HasShape, declarations_at, header_at, header_of, kind_at, linked_header, size_at, unit_count, version_at}
 
 whole_leads : (size number place : ℕ) (read : Length × ℕ) (b : Bool) → nat_le (read.1 + read.0.value) size ≡ b → place + 4 ≤ read.1 → number < 131072

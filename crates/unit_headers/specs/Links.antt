@@ -1,14 +1,14 @@
 -- The units of `.debug_info` (DWARF 5 section 7.5.1.1): unit 0 begins at the section's start, each
 -- other one where its predecessor ends, and the chain ends at the section's end or at the first link
 -- that can't be followed.
-use Rattle.std.specs.Prelude.{◌≡◌, ℕ, zero, suc, ◌+◌, ◌<◌, ◌≤◌, ◌==◌, nat_le, Bool, if◌then◌else◌, List, [], ◌∷◌, length, Result, Ok, Err}
+use Rattle.std.specs.Prelude.{◌≡◌, ℕ, zero, suc, ◌+◌, ◌<◌, ◌≤◌, ◌==◌, nat_le, if◌then◌else◌, List, [], ◌∷◌, length, Result, Ok, Err}
 use Rattle.dw_fields.specs.declared.byte_order.Order.{Order}
 use Rattle.dw_fields.specs.declared.cursor.Length.{Length}
 use Rattle.dw_fields.specs.declared.fault_code.Code.TheVariants.{UnitTruncated, UnitLimit}
 use Rattle.dw_fields.specs.declared.fault_code.Fault.{Fault}
 use Rattle.dw_fields.specs.Codes.{fault}
 use Rattle.dw_fields.specs.Span.{Span}
-use Rattle.dw_fields.specs.Reading.{Reader, length_at}
+use Rattle.dw_fields.specs.Reading.{length_at}
 use Rattle.unit_headers.specs.declared.chain.Link.{Link}
 use Rattle.unit_headers.specs.declared.chain.Link.TheVariants.{Whole, Broken}
 use Rattle.unit_headers.specs.Kinds.{in_unit}

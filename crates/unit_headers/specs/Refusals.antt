@@ -1,5 +1,5 @@
 -- Answers of readers that may also want memory, which says nothing of the bytes.
-use Rattle.std.specs.Prelude.{◌≡◌, ℕ, Result, Ok, Err}
+use Rattle.std.specs.Prelude.{◌≡◌, Result, Ok, Err}
 use Rattle.dw_fields.specs.declared.fault_code.Fault.{Fault}
 use Rattle.dw_fields.specs.Span.{Span, at}
 use Rattle.dw_fields.specs.Reading.{Reader}

@@ -11,6 +11,8 @@ mod front;
 mod header;
 mod names;
 mod tables;
+#[cfg(test)]
+mod tests;
 
 pub use header::LineHeader;
 pub use line_machine::Row;

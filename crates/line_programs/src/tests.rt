@@ -1,0 +1,155 @@
+//! A worked program, and what each changed byte of it comes to.
+
+use crate::LineHeader;
+use dw_fields::Order;
+use elf_sections::Sections;
+use std::alloc::Global;
+use unit_headers::{Extra, UnitHeader, UnitKind, UnitRefusal};
+
+/// One directory `/s`, one file `a.c` twice, and four rows. The fields of the header end at 0x35.
+const LINES: [u8; 72] = [
+    0x44, 0x00, 0x00, 0x00, 0x05, 0x00, 0x08, 0x00, 0x29, 0x00, 0x00, 0x00, 0x01, 0x01, 0x01, 0xfb,
+    0x0e, 0x0d, 0x00, 0x01, 0x01, 0x01, 0x01, 0x00, 0x00, 0x00, 0x01, 0x00, 0x00, 0x01, 0x01, 0x01,
+    0x08, 0x01, 0x2f, 0x73, 0x00, 0x02, 0x01, 0x08, 0x02, 0x0b, 0x02, 0x61, 0x2e, 0x63, 0x00, 0x00,
+    0x61, 0x2e, 0x63, 0x00, 0x00, 0x00, 0x09, 0x02, 0x00, 0x10, 0x00, 0x00, 0x00, 0x00, 0x00, 0x00,
+    0x01, 0x4b, 0x13, 0x02, 0x02, 0x00, 0x01, 0x01,
+];
+
+fn sections(line: Option<&[u8]>) -> Sections<'_> {
+    Sections {
+        order: Order::Little,
+        info: b"",
+        abbrev: b"",
+        text: None,
+        line_text: None,
+        text_offsets: None,
+        address: None,
+        range_lists: None,
+        location_lists: None,
+        line,
+        ranges: None,
+        locations: None,
+        frame: None,
+    }
+}
+
+const UNIT: UnitHeader = UnitHeader {
+    number: 0,
+    place: 0,
+    end: 0x11,
+    wide: false,
+    version: 5,
+    kind: UnitKind::Compile,
+    address_size: 8,
+    abbrev: 0,
+    entries: 0xc,
+    extra: Extra::Nothing,
+};
+
+/// The number and the place of the first refusal of a program, header and rows; 0 and 0 without one.
+fn refusal(alloc: Global, line: &[u8]) -> (u8, u64) {
+    match LineHeader::read(alloc, &sections(Some(line)), &UNIT, 0) {
+        Ok(header) => match header.rows(alloc) {
+            Ok(_) => (0, 0),
+            Err(refusal) => told(refusal),
+        },
+        Err(refusal) => told(refusal),
+    }
+}
+
+fn told(refusal: UnitRefusal) -> (u8, u64) {
+    match refusal {
+        UnitRefusal::Refused(fault) => (fault.code.number(), fault.place),
+        UnitRefusal::OutOfMemory => (255, 0),
+    }
+}
+
+#[test]
+fn the_worked_program_has_its_names_and_rows(rt: HostRuntime) {
+    let header = LineHeader::read(rt.alloc(), &sections(Some(&LINES)), &UNIT, 0).expect(
+        &rt, "read",
+    );
+    assert_eq!(rt; header.directories().len(), 1);
+    assert_eq!(rt; header.files().len(), 2);
+    for directory in header.directories() {
+        assert!(rt; *directory == b"/s".as_slice());
+    }
+    for file in header.files() {
+        assert!(rt; file.path == b"a.c".as_slice());
+        assert_eq!(rt; file.directory, 0);
+    }
+    let rows = header.rows(rt.alloc()).expect(&rt, "rows");
+    let wanted = [
+        (0x1000, 1, false),
+        (0x1004, 2, false),
+        (0x1004, 3, false),
+        (0x1006, 3, true),
+    ];
+    assert_eq!(rt; rows.len(), 4);
+    for (row, (address, line, end)) in rows.iter().zip(wanted) {
+        assert_eq!(rt; row.address, address);
+        assert_eq!(rt; row.line, line);
+        assert_eq!(rt; row.file, 1);
+        assert_eq!(rt; row.column, 0);
+        assert!(rt; row.stmt);
+        assert_eq!(rt; row.end, end);
+    }
+}
+
+#[test]
+fn a_changed_byte_has_its_refusal(rt: HostRuntime) {
+    let cases = [
+        (0x00, 0x44, 0, 0x00), // as it is
+        (0x00, 0x45, 53, 0x00), // the program passes the section
+        (0x03, 0xff, 53, 0x00), // the length is larger still
+        (0x04, 0x04, 50, 0x04), // another version
+        (0x08, 0x3d, 53, 0x08), // the header passes the program
+        (0x0d, 0x00, 52, 0x0d), // no operations
+        (0x10, 0x00, 51, 0x10), // no range
+        (0x11, 0x00, 51, 0x11), // no opcodes
+        (0x11, 0xff, 53, 0x12), // lengths that pass the header
+        (0x20, 0x0b, 54, 0x20), // a directory's path as data1
+        (0x29, 0x08, 54, 0x29), // a directory index as string
+        (0x27, 0x16, 54, 0x27), // a path as indirect
+        (0x27, 0x0e, 47, 0x2b), // a path in an absent section
+        (0x1e, 0x00, 54, 0x1f), // directories without a format
+        (0x2a, 0x03, 53, 0x35), // a third file passes the header
+        (0x36, 0x00, 55, 0x36), // an extended operation without a byte
+        (0x36, 0x08, 55, 0x36), // an address of seven bytes
+        (0x36, 0x7f, 53, 0x37), // an extended operation passes the program
+        (0x46, 0x02, 53, 0x47), // the same of the last
+        (0x47, 0x02, 55, 0x46), // an address without a byte
+    ];
+    for (place, value, number, at) in cases {
+        let mut line = LINES;
+        if place < 72 {
+            line[place] = value;
+        }
+        let (code, found) = refusal(rt.alloc(), &line);
+        assert_eq!(rt; code, number, "at {place:x}");
+        assert_eq!(rt; found, at, "at {place:x}");
+    }
+}
+
+#[test]
+fn an_absent_section_and_an_offset_outside_are_refused(rt: HostRuntime) {
+    let absent = LineHeader::read(rt.alloc(), &sections(None), &UNIT, 0).err();
+    assert!(rt; absent.map(told) == Some((47, 0)));
+    let outside = LineHeader::read(rt.alloc(), &sections(Some(&LINES)), &UNIT, 72).err();
+    assert!(rt; outside.map(told) == Some((53, 72)));
+}
+
+#[test]
+fn const_add_pc_advances_as_the_greatest_special_opcode(rt: HostRuntime) {
+    let mut line = LINES;
+    line[0x41] = 0x08;
+    let header = LineHeader::read(rt.alloc(), &sections(Some(&line)), &UNIT, 0).expect(&rt, "read");
+    let rows = header.rows(rt.alloc()).expect(&rt, "rows");
+    let wanted = [(0x1000, 1, false), (0x1011, 2, false), (0x1013, 2, true)];
+    assert_eq!(rt; rows.len(), 3);
+    for (row, (address, line, end)) in rows.iter().zip(wanted) {
+        assert_eq!(rt; row.address, address);
+        assert_eq!(rt; row.line, line);
+        assert_eq!(rt; row.end, end);
+    }
+}

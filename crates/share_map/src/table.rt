@@ -1,0 +1,143 @@
+//! The table and its calls.
+ghost use Rattle.std.specs.Prelude.{◌≡◌, ◌≢◌, ◌↔◌, ◌<◌, ◌≤◌, ℕ, Some, IfOk, IsTrue};
+ghost use Rattle.map_core.specs.Sizes.{cells_of};
+ghost use Rattle.map_core.specs.History.{value_in};
+ghost use Rattle.map_core.specs.Machine.{IsWord};
+ghost use Rattle.map_core.specs.Calls.{FindsAt};
+ghost use Rattle.map_core.specs.Passes.{AtRest, Told};
+ghost use Rattle.map_cells.specs.Seen.{IsOf};
+ghost use Rattle.map_cells.specs.Passing.{IsSplit, IsJoined};
+ghost use Rattle.share_map.specs.Answers.{IsNew, Inserts, PutTogether};
+
+use crate::answers::{Full, Kept, Shape};
+use map_cells::{Cells, Facts, Layout, Pass, Put};
+use std::alloc::{AllocError, Global};
+use std::marker::Model;
+
+/// A map from keys to values that threads share without locks.
+#[derive(Drop)]
+pub struct Table<F: Facts> {
+    cells: Cells<F>,
+}
+
+impl<F: Facts> Model for Table<F> {
+    ghost use Rattle.map_cells.specs.Seen.{CellsView};
+
+    ghost Value = { CellsView };
+
+    ghost view = { λ t. t.cells };
+}
+
+impl<F: Facts> Table<F> {
+    /// An empty table with room for `capacity` entries and `passes` passes, and its first pass. Which pairs it may
+    /// hold is read off `facts`, of which it keeps nothing.
+    pub fn new(
+        alloc: Global,
+        capacity: u64,
+        passes: u32,
+        facts: &F,
+    ) -> Result<(Table<F>, Pass<F>), AllocError>
+        requires capacity { (1 ≤ capacity) × (capacity ≤ 4194304) }
+        requires passes { (1 ≤ passes) × (passes ≤ 128) }
+        ensures { IfOk result (λ r. IsNew capacity passes (F.tag facts.now) r.0 r.1) }
+    {
+        let layout = Layout::of(capacity, passes);
+        let (cells, pass) = Cells::new(alloc, layout, passes, facts)?;
+        Ok((Table { cells }, pass))
+    }
+
+    /// The value of a key, or that it has none.
+    pub fn find(&self, pass: &mut Pass<F>, key: u64) -> Option<u64>
+        requires of { IsOf self.now pass.old }
+        requires rest { AtRest pass.old.knows }
+        requires key { IsWord key }
+        ensures of { IsOf self.now pass.new }
+        ensures rest { AtRest pass.new.knows }
+        ensures told { Told F.fits pass.new.knows }
+        ensures find { FindsAt (F.fits pass.old.knows.tag) pass.old.knows pass.new.knows key result }
+        // what was in the pass's front is found
+        ensures kept { (v : ℕ) → value_in pass.old.knows.front key ≡ Some v → result ≡ Some v }
+    {
+        pass.told();
+        let generation = self.cells.layout().last;
+        self.cells.seek_from(pass, generation, key)
+    }
+
+    /// Puts a pair in, unless the key has a value.
+    pub fn insert(&self, pass: &mut Pass<F>, key: u64, value: u64) -> Result<Kept, Full>
+        requires of { IsOf self.now pass.old }
+        requires rest { AtRest pass.old.knows }
+        requires key { IsWord key }
+        requires value { IsWord value }
+        requires fits { F.fits pass.old.knows.tag key value }
+        ensures of { IsOf self.now pass.new }
+        ensures rest { AtRest pass.new.knows }
+        ensures told { Told F.fits pass.new.knows }
+        ensures insert { Inserts (F.fits pass.old.knows.tag) self.now.layout.capacity key value pass.old.knows pass.new.knows result }
+    {
+        pass.told();
+        let layout = self.cells.layout();
+        let generation = layout.last;
+        let capacity = layout.capacity;
+        if self.cells.counted(pass) >= capacity {
+            return match self.cells.seek_from(pass, generation, key) {
+                Some(found) => Ok(Kept::Found(found)),
+                None => Err(Full),
+            };
+        }
+        match self.cells.put_from(pass, generation, key, value) {
+            Put::Placed => {
+                self.cells.count(pass);
+                Ok(Kept::Placed)
+            }
+            Put::Found(found) => Ok(Kept::Found(found)),
+            Put::Exhausted => Err(Full),
+        }
+    }
+
+    /// Splits off a new pass, which knows as much. It takes one of the spare numbers.
+    pub fn split(&self, pass: &mut Pass<F>) -> Pass<F>
+        requires of { IsOf self.now pass.old }
+        requires spare { 0 < pass.old.knows.spare }
+        requires rest { AtRest pass.old.knows }
+        ensures of { IsOf self.now pass.new × IsOf self.now result }
+        ensures rest { AtRest pass.new.knows × AtRest result.knows }
+        ensures passes { IsSplit F.fits pass.old.knows pass.new.knows result.knows }
+    {
+        self.cells.split(pass)
+    }
+
+    /// Takes a pass into another, which then knows as much as both.
+    pub fn join(&self, into: &mut Pass<F>, from: Pass<F>)
+        requires of { IsOf self.now into.old }
+        requires also { IsOf self.now from }
+        requires number { from.knows.number ≢ 0 }
+        requires rest { AtRest into.old.knows }
+        requires quiet { AtRest from.knows }
+        ensures of { IsOf self.now into.new }
+        ensures passes { IsJoined F.fits into.old.knows from.knows into.new.knows }
+        ensures own { PutTogether into.old.knows from.knows into.new.knows }
+    {
+        into.told();
+        from.told();
+        self.cells.join(into, from)
+    }
+
+    /// The generation that the table is in. For now that is its last from the start.
+    pub fn shape(&self, pass: &mut Pass<F>) -> Shape
+        requires { IsOf self.now pass.old }
+        ensures same { pass.new ≡ pass.old }
+        ensures risen { pass.old.knows.generation ≤ result.generation }
+        ensures cells { result.cells ≡ cells_of result.generation }
+        ensures last { IsTrue result.last ↔ (result.generation ≡ self.now.layout.last) }
+    {
+        pass.told();
+        let layout = self.cells.layout();
+        let generation = layout.last;
+        Shape {
+            generation,
+            cells: layout.cells(generation),
+            last: true,
+        }
+    }
+}

@@ -5,3 +5,6 @@ pub mod Operands
 pub mod Turns
 pub mod Ranges
 pub mod Locations
+pub mod Entries
+pub mod EntriesLaws
+pub mod PastLaws

@@ -2,19 +2,24 @@
 //! 2.17.3, 7.7.3 and 7.25).
 //!
 //! [`read_ranges`] and [`read_locations`] read one list from its offset to its end. The list, and the
-//! first refusal in the order of reading, are exact: they are the definitions of `specs/Lists.antt`.
-//! An index in a list is resolved as soon as it is read.
+//! first refusal in the order of reading, are exact: `ranges_of` of `specs/Ranges.antt` and
+//! `locations_of` of `specs/Locations.antt`. An index in a list is resolved as soon as
+//! it is read.
 #![tactic(auto)]
 
 mod bounds;
 mod context;
 mod kinds;
+mod laws;
 mod lists;
 mod locations;
 mod operands;
 mod ranges;
+#[cfg(test)]
+mod tests;
 mod turns;
 
 pub use bounds::Range;
+pub use laws::{locations_are_their_entries, ranges_are_their_entries};
 pub use locations::{Location, read_locations};
 pub use ranges::read_ranges;

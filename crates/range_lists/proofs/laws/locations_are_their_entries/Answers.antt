@@ -1,0 +1,5 @@
+use Rattle.range_lists.specs.PastLaws.{location_list-IsList}
+use Rattle.range_lists.proofs.laws.locations_are_their_entries.Goals as goal
+
+pub returns : goal.returns
+returns c = λ context base. location_list-IsList context base c.args.section.now c.args.order c.args.offset

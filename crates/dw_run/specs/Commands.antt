@@ -1,34 +1,17 @@
 -- What each command tells of a file's sections.
 use Rattle.std.specs.Prelude.{◌≡◌, ℕ, ◌+◌, List, [], ◌∷◌, ◌++◌, length, Option, Some, None, Result, Ok, Err}
 use Rattle.dw_fields.specs.declared.fault_code.Fault.{Fault}
-use Rattle.dw_fields.specs.Reading.{◌>>=◌}
 use Rattle.elf_sections.specs.Rows.{ElfView, Row}
 use Rattle.elf_sections.specs.Shapes.{SectionsView, sections_of}
-use Rattle.unit_headers.specs.Headers.{header_at, unit_count}
-use Rattle.unit_headers.specs.Units.{Units}
-use Rattle.unit_text.specs.Pieces.{Text}
 use Rattle.unit_text.specs.SectionLine.{section_line}
 use Rattle.unit_text.specs.Tables.{tables_text}
-use Rattle.unit_text.specs.UnitLine.{unit_line}
 use Rattle.dw_run.specs.declared.command.Command.{Command}
 use Rattle.dw_run.specs.declared.command.Command.TheVariants as commands
 use Rattle.dw_run.specs.declared.refusals.Refusal.{Refusal}
 use Rattle.dw_run.specs.declared.refusals.Refusal.TheVariants as refusals
-use Rattle.dw_run.specs.Told.{Told, whole, units_told}
-
--- the units of a file's sections
-abbrev pub units_of : SectionsView → Units
-units_of s = record { info = s.info; order = s.order; abbrev_length = length s.«abbrev» }
-
--- the line of one unit, or its refusal
-unfoldable pub unit_line_of : Units → ℕ → Text
-unit_line_of u i = do
-  header ← header_at u.info u.order u.abbrev_length i
-  Ok (unit_line header)
-
--- the lines of all units
-unfoldable pub unit_lines_told : SectionsView → Told
-unit_lines_told s = units_told (unit_line_of (units_of s)) 0 (unit_count s.info s.order)
+use Rattle.dw_run.specs.declared.unit_parts.Part.TheVariants as parts
+use Rattle.dw_run.specs.Told.{Told, whole}
+use Rattle.dw_run.specs.UnitParts.{units_part_told}
 
 -- the lines of sections, the first of which has this number
 unfoldable pub sections_text : ℕ → List Row → List ℕ
@@ -44,6 +27,9 @@ unfoldable pub tables_told : List ℕ → Told
 tables_told section = record { text = (tables_text section).0; refusal = tables_end (tables_text section).1 }
 
 abbrev pub told_of_elf : Command → ElfView → Told
-told_of_elf commands.Units elf = unit_lines_told (sections_of elf)
+told_of_elf commands.Units elf = units_part_told parts.Line (sections_of elf)
 told_of_elf commands.Sections elf = whole (sections_text 0 elf.sections)
 told_of_elf commands.Abbrev elf = tables_told (sections_of elf).«abbrev»
+told_of_elf commands.Dump elf = units_part_told parts.Entries (sections_of elf)
+told_of_elf commands.Lines elf = units_part_told parts.LineTable (sections_of elf)
+told_of_elf commands.Ranges elf = units_part_told parts.Lists (sections_of elf)

@@ -4,3 +4,4 @@ pub mod Words
 pub mod Endings
 pub mod Output
 pub mod RefusalLines
+pub mod UnitParts

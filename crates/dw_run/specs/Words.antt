@@ -13,12 +13,20 @@ pub record RequestView : Type 0 where
 abbrev pub request_view : Request → RequestView
 request_view r = record { command = r.command; file = r.file.now }
 
+-- the commands that tell of each unit more than its line
+unfoldable pub unit_command_named : List ℕ → Option Command
+unit_command_named word =
+    if bytes_eq word (codes "dump") then Some commands.Dump
+    else (if bytes_eq word (codes "lines") then Some commands.Lines
+    else (if bytes_eq word (codes "ranges") then Some commands.Ranges
+    else None))
+
 unfoldable pub command_named : List ℕ → Option Command
 command_named word =
     if bytes_eq word (codes "units") then Some commands.Units
     else (if bytes_eq word (codes "sections") then Some commands.Sections
     else (if bytes_eq word (codes "abbrev") then Some commands.Abbrev
-    else None))
+    else unit_command_named word))
 
 abbrev pub begins_with_dash : List ℕ → Bool
 begins_with_dash [] = false

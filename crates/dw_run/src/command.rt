@@ -1,7 +1,7 @@
 //! The commands, and their names on a command line.
 
 ghost use Rattle.std.specs.Prelude.{◌≡◌};
-ghost use Rattle.dw_run.specs.Words.{command_named};
+ghost use Rattle.dw_run.specs.Words.{command_named, unit_command_named};
 
 /// What a command line asks for.
 #[derive(Clone, Copy, Debug, PartialEq, Eq)]
@@ -12,6 +12,12 @@ pub enum Command {
     Sections,
     /// All abbreviation tables.
     Abbrev,
+    /// The entries and attributes of every unit.
+    Dump,
+    /// The line table of every unit that has one.
+    Lines,
+    /// The range and location lists of every entry.
+    Ranges,
 }
 
 /// The command of a name, where there is one.
@@ -23,6 +29,19 @@ pub fn find_command(name: &str) -> Option<Command>
         "units" => Some(Command::Units),
         "sections" => Some(Command::Sections),
         "abbrev" => Some(Command::Abbrev),
+        _ => find_unit_command(name),
+    }
+}
+
+/// The same for the commands that tell of each unit more than its line.
+#[tactic(auto, unfolding(crate::specs::Words::unit_command_named))]
+fn find_unit_command(name: &str) -> Option<Command>
+    ensures { result ≡ unit_command_named name.now }
+{
+    match name {
+        "dump" => Some(Command::Dump),
+        "lines" => Some(Command::Lines),
+        "ranges" => Some(Command::Ranges),
         _ => None,
     }
 }

@@ -8,8 +8,9 @@ mod refusal_lines;
 mod refusals;
 mod section_lines;
 mod tables;
-mod unit_lines;
+mod unit_parts;
 mod unit_texts;
+mod units;
 mod words;
 
 pub use command::Command;

@@ -16,7 +16,7 @@ use crate::endings::{DONE, NO_MEANING, NO_MEMORY, NOT_READ, NOT_WRITTEN, end_ref
 use crate::refusals::Refusal;
 use crate::section_lines::tell_sections;
 use crate::tables::tell_tables;
-use crate::unit_lines::tell_unit_lines;
+use crate::unit_parts::{Part, tell_parts};
 use crate::words::{Request, read_words};
 use dw_outside::{ReadStop, Sink, Source, WriteStop, read_file};
 use elf_sections::{Elf, OpenRefusal};
@@ -134,8 +134,11 @@ fn tell_elf<O: Sink>(
     ensures cause { HasCause write_stops.Failed (O.faults out.old) (O.faults out.new) result }
 {
     match command {
-        Command::Units => tell_unit_lines(alloc, &elf.debug_sections(), out),
+        Command::Units => tell_parts(alloc, Part::Line, &elf.debug_sections(), out),
         Command::Sections => tell_sections(alloc, elf.sections(), out),
         Command::Abbrev => tell_tables(alloc, elf.debug_sections().abbrev, out),
+        Command::Dump => tell_parts(alloc, Part::Entries, &elf.debug_sections(), out),
+        Command::Lines => tell_parts(alloc, Part::LineTable, &elf.debug_sections(), out),
+        Command::Ranges => tell_parts(alloc, Part::Lists, &elf.debug_sections(), out),
     }
 }

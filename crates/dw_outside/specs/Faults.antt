@@ -2,6 +2,10 @@
 -- `Failed` has a cause outside of the program.
 use Rattle.std.specs.Prelude.{ℕ, ◌+◌, ◌-◌, ◌^◌, ◌≤◌, min, Result, Ok, Err, IsErrOf, OnErr}
 use Rattle.std.proofs.Common.{arith}
+use Rattle.dw_outside.specs.declared.stops.ReadStop.{ReadStop}
+use Rattle.dw_outside.specs.declared.stops.ReadStop.TheVariants as read_stops
+use Rattle.dw_outside.specs.declared.stops.WriteStop.{WriteStop}
+use Rattle.dw_outside.specs.declared.stops.WriteStop.TheVariants as write_stops
 
 -- the count rose between the two, or it stands at the greatest `u64`, which it can't leave
 abbrev pub Rose : ℕ → ℕ → Type 0
@@ -15,6 +19,15 @@ pub record HasCause {T E : Type 0} (failed : E) (before now : ℕ) (result : Res
 -- the count with one fault more, in 64 bits
 abbrev pub counted : ℕ → ℕ
 counted n = min (n + 1) (2 ^ 64 - 1)
+
+-- the count behind a call that was refused: want of memory isn't counted
+abbrev pub after_read : ReadStop → ℕ → ℕ
+after_read read_stops.Failed n = counted n
+after_read read_stops.OutOfMemory n = n
+
+abbrev pub after_write : WriteStop → ℕ → ℕ
+after_write write_stops.Failed n = counted n
+after_write write_stops.OutOfMemory n = n
 
 -- a count that rose stays risen
 pub Rose-later : (before mid now : ℕ) → Rose before mid → mid ≤ now → Rose before now

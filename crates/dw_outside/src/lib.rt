@@ -16,6 +16,8 @@ mod gates;
 mod memory;
 mod stops;
 mod streams;
+#[cfg(test)]
+mod tests;
 mod traits;
 mod whole;
 

@@ -1,6 +1,11 @@
 //! A real file and a real stream: the trusted edge, of whose content nothing is told.
-ghost use Rattle.std.specs.Prelude.{◌≡◌, ℕ, List, None, length};
+ghost use Rattle.std.specs.Prelude.{◌≡◌, ℕ, List, None, IfOk, MatchResult, length};
 ghost use Rattle.std.specs.Io.{ReadsAtMost};
+ghost use Rattle.dw_outside.specs.Reads.{ReadsFrom};
+ghost use Rattle.dw_outside.specs.Gains.{Takes};
+ghost use Rattle.dw_outside.specs.Faults.{HasCause, after_read, after_write};
+ghost use Rattle.dw_outside.specs.declared.stops.ReadStop.TheVariants as read_stops;
+ghost use Rattle.dw_outside.specs.declared.stops.WriteStop.TheVariants as write_stops;
 
 use super::stops::{ReadStop, WriteStop};
 use super::traits::{Sink, Source};
@@ -42,7 +47,11 @@ impl<R: Files> Source for FileSource<R> {
 
     ghost faults = { λ s. s };
 
-    fn read(&mut self, name: &str, into: &mut [u8], from: u64) -> Result<usize, ReadStop> {
+    fn read(&mut self, name: &str, into: &mut [u8], from: u64) -> Result<usize, ReadStop>
+        ensures bytes { IfOk result (λ n. ReadsFrom None from n into.new) }
+        ensures cause { HasCause read_stops.Failed self.old self.new result }
+        ensures count { MatchResult result (λ _. self.new ≡ self.old) (λ stop. self.new ≡ after_read stop self.old) }
+    {
         match read_at(&self.rt, name, into, from) {
             Ok(count) => Ok(count),
             Err(error) => {
@@ -94,7 +103,11 @@ impl<W: io::Write + Drop> Sink for StreamSink<W> {
 
     ghost faults = { λ s. s };
 
-    fn write(&mut self, bytes: &[u8]) -> Result<usize, WriteStop> {
+    fn write(&mut self, bytes: &[u8]) -> Result<usize, WriteStop>
+        ensures taken { Takes None None bytes.now result }
+        ensures cause { HasCause write_stops.Failed self.old self.new result }
+        ensures count { MatchResult result (λ _. self.new ≡ self.old) (λ stop. self.new ≡ after_write stop self.old) }
+    {
         match self.writer.write(bytes) {
             Ok(count) => {
                 if count == 0 && !bytes.is_empty() {

@@ -3,5 +3,6 @@ pub mod Entries
 pub mod Keys
 pub mod KeyLaws
 pub mod Facts
+pub mod Tiles
 pub mod Told
 pub mod Units

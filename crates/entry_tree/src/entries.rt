@@ -9,7 +9,8 @@ ghost use Rattle.unit_headers.specs.Refusals.{Answers, AnswersAt};
 ghost use Rattle.entry_tree.specs.Views.{entry_view, stepped_entries, stepped_view};
 ghost use Rattle.entry_tree.specs.Entries.{depth_behind, behind_entry, coded_at, entry_at, entries_in};
 ghost use Rattle.entry_tree.specs.Keys.{GainsOnly, IsFoundKey, IsKeyAmong, KeysKnown, KeysNoted};
-ghost use Rattle.entry_tree.specs.Units.{IsUnitOf, entries_of};
+ghost use Rattle.entry_tree.specs.Tiles.{EntriesTile};
+ghost use Rattle.entry_tree.specs.Units.{IsUnitOf, area_of, entries_of};
 
 use crate::attributes::read_attrs;
 use crate::declared::find_declaration;
@@ -136,7 +137,7 @@ fn add_entry<'a>(
 }
 
 /// The entries from the cut's place to its end.
-#[tactic(auto, unfolding(crate::specs::Entries::entries_in))]
+#[tactic(auto, using(crate::specs::Tiles::pieces_none), unfolding(crate::specs::Entries::entries_in))]
 fn read_area<'a, 'f: 'a, D: Decls<'f>, L>(
     arena: &'a Bump,
     decls: &mut D,
@@ -148,6 +149,7 @@ fn read_area<'a, 'f: 'a, D: Decls<'f>, L>(
     requires size { IsAddressSize header.now.address_size }
     requires short { cut.old.end < 2 ^ 32 }
     ensures entries { Answers (λ s. map entry_view s.now) result (entries_in (D.section decls.old) header.now.«abbrev» (widths_of header.now) cut.old) }
+    ensures tile { IfOk result (λ s. EntriesTile (D.section decls.old) header.now.«abbrev» (widths_of header.now) cut.old (map entry_view s.now)) }
     ensures kept { D.section decls.new ≡ D.section decls.old }
     ensures follows { D.follows decls.old decls.new }
     ensures seen { Extends (D.seen decls.old) (D.seen decls.new) }
@@ -197,6 +199,7 @@ pub fn read_entries<'a, 'f: 'a, D: Decls<'f>, L>(
     requires unit { IsUnitOf (sections_view sections.now) header.now }
     requires short { AreShort (sections_view sections.now) }
     ensures entries { Answers (λ s. map entry_view s.now) result (entries_of (sections_view sections.entry.now) header.now) }
+    ensures tile { IfOk result (λ s. EntriesTile (sections_view sections.entry.now).«abbrev» header.now.«abbrev» (widths_of header.now) (area_of (sections_view sections.entry.now) header.now) (map entry_view s.now)) }
     ensures kept { D.section decls.new ≡ D.section decls.old }
     ensures follows { D.follows decls.old decls.new }
     ensures seen { Extends (D.seen decls.old) (D.seen decls.new) }

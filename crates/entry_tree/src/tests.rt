@@ -39,16 +39,16 @@ const HEADER: UnitHeader = UnitHeader {
     extra: Extra::Nothing,
 };
 
-fn sections_of<'f>(info: &'f [u8; 25], abbrev: &'f [u8; 22]) -> Sections<'f>
+fn sections_of<'f>(info: &'f [u8; 25], declarations: &'f [u8; 22]) -> Sections<'f>
     ensures info { length (sections_view result).info ≡ 25 }
     ensures declarations { length (sections_view result).«abbrev» ≡ 22 }
-    ensures same { (sections_view result).«abbrev» ≡ abbrev.entry.now }
+    ensures same { (sections_view result).«abbrev» ≡ declarations.entry.now }
     ensures short { AreShort (sections_view result) }
 {
     Sections {
         order: Order::Little,
         info,
-        abbrev,
+        abbrev: declarations,
         text: None,
         line_text: None,
         text_offsets: None,

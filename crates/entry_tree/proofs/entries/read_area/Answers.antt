@@ -1,4 +1,4 @@
-use Rattle.std.proofs.Common.{◌≡◌, ◌+◌, ◌-◌, ℕ, List, map, rules, ap, subst, ◌∙◌, arith, Ok}
+use Rattle.std.proofs.Common.{◌≡◌, ◌+◌, ◌-◌, ℕ, List, map, rules, ap, sym, subst, ◌∙◌, arith, Ok}
 use Rattle.dw_fields.specs.Span.{Span, at}
 use Rattle.form_values.specs.View.{widths_of}
 use Rattle.unit_headers.specs.Refusals.{Refuses}
@@ -6,6 +6,7 @@ use Rattle.entry_tree.specs.Views.{entry_view, stepped_entries}
 use Rattle.entry_tree.specs.Entries.{entry_at, entries_in}
 use Rattle.entry_tree.specs.Keys.{GainsOnly, IsFoundKey}
 use Rattle.entry_tree.specs.KeyLaws.{Extends-then, GainsOnly-then}
+use Rattle.entry_tree.specs.Tiles.{pieces_next}
 use Rattle.entry_tree.proofs.AreaSteps.{area_next, area_fails, area_ends, area_stops, keys_next, noted_next, known_next}
 use Rattle.entry_tree.proofs.entries.read_area.Goals as goal
 
@@ -50,6 +51,9 @@ entries-preserved g c =
           (c.left-turns.result - c.entries._turn) (c.left-turns.result - (c.entries._turn + 1)) c.entries.depth c.in-Ok.stepped.depth c.entries.cut c.read_entry.new.cut
           (map entry_view c.entries.entries.items) (stepped_entries c.in-Ok.stepped) (map entry_view c.add_entry.new.entries.items) _
           (omega arith) (omega arith) (subst Q c.entries.invariant.kept c.in-Ok.ensures.entry.0) c.in-Ok.ensures.entry.1 c.in-Ok-add_entry.ensures c.entries.invariant.walked;
+      tiled = pieces_next (g.D.Decls.section c.args.decls.now) c.args.header.now.«abbrev» (widths_of c.args.header.now) c.args.cut.now c.entries.cut c.read_entry.new.cut
+          c.entries.depth c.in-Ok.stepped.depth (map entry_view c.entries.entries.items) (stepped_entries c.in-Ok.stepped) (map entry_view c.add_entry.new.entries.items)
+          c.entries.invariant.tiled c.entries.invariant.same (omega (arith, c.in-Ok.ensures.forward.0)) (subst Q c.entries.invariant.kept c.in-Ok.ensures.entry.0) c.in-Ok-add_entry.ensures;
       kept = c.in-Ok.ensures.kept ∙ c.entries.invariant.kept;
       follows = search rules;
       seen = Extends-then _ _ _ c.entries.invariant.seen c.in-Ok.ensures.seen;
@@ -68,3 +72,12 @@ returns-clause-entries g c =
     rw c.into_bump_slice-2.ensures (area_stops (entry_at (g.D.Decls.section c.args.decls.now) c.args.header.now.«abbrev» (widths_of c.args.header.now))
     (c.left-turns.result - c.entries._turn) c.entries.depth c.left-turns.result c.entries.cut c.args.cut.now (map entry_view c.entries.entries.items)
     (omega arith) (omega arith) c.entries.invariant.walked)
+
+pub returns-then-left-eq0-clause-tile : goal.returns-then-left-eq0-clause-tile
+returns-then-left-eq0-clause-tile g c =
+    let ends : c.args.cut.now.end ≡ c.entries.cut.end = ap (λ (s : Span). s.end) (sym c.entries.invariant.same) in
+    rw c.into_bump_slice.ensures (record { last_depth = c.entries.depth; last = c.entries.cut.place; pieces = c.entries.invariant.tiled; ends = omega arith })
+
+pub returns-clause-tile : goal.returns-clause-tile
+returns-clause-tile g c =
+    rw c.into_bump_slice-2.ensures (record { last_depth = c.entries.depth; last = c.entries.cut.place; pieces = c.entries.invariant.tiled; ends = omega arith })

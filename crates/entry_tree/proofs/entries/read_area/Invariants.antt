@@ -5,6 +5,7 @@ use Rattle.abbrev_decl.specs.Lookup.{Extends}
 use Rattle.form_values.specs.View.{widths_of}
 use Rattle.entry_tree.specs.Views.{entry_view}
 use Rattle.entry_tree.specs.Entries.{entry_at}
+use Rattle.entry_tree.specs.Tiles.{PiecesUpTo}
 use Rattle.entry_tree.specs.Keys.{GainsOnly, IsFoundKey, IsKeyAmong, KeysKnown, KeysNoted}
 use Rattle.entry_tree.proofs.entries.read_area.Given as goal
 
@@ -15,6 +16,7 @@ invariant-entries g l = record {
   deep : l.fn.cut.place + l.depth ≤ l.cut.place;
   walked : ahead (map entry_view l.entries.items) (walk (entry_at (g.D.Decls.section l.fn.decls) l.header.«abbrev» (widths_of l.header)) (l.turns - l._turn) l.depth l.cut)
       ≡ walk (entry_at (g.D.Decls.section l.fn.decls) l.header.«abbrev» (widths_of l.header)) l.turns 0 l.fn.cut;
+  tiled : PiecesUpTo (g.D.Decls.section l.fn.decls) l.header.«abbrev» (widths_of l.header) l.fn.cut l.depth l.cut.place (map entry_view l.entries.items);
   kept : g.D.Decls.section l.decls ≡ g.D.Decls.section l.fn.decls;
   follows : g.D.Decls.follows l.fn.decls l.decls;
   seen : Extends (g.D.Decls.seen l.fn.decls) (g.D.Decls.seen l.decls);

@@ -28,7 +28,7 @@ use Rattle.map_core.proofs.TurnLemmas.{look_hit, seen_more, sees_turn, reads_tur
 use Rattle.map_core.proofs.CountLemmas.{log_small, total_le, count_le}
 use Rattle.map_core.proofs.AbsentLemmas.{absent_unset}
 use Rattle.map_cells.specs.declared.about.About.{About}
-use Rattle.map_cells.specs.Steps.{ClosedTo, SettledTo, Steps, Looks, KeyTried, IsNewest, IsPlaced, IsLost, ValueTried, CountRaised}
+use Rattle.map_cells.specs.Steps.{ClosedTo, SettledTo, MayPublish, Steps, Looks, KeyTried, IsNewest, IsPlaced, IsLost, ValueTried, CountRaised}
 use Rattle.map_cells.specs.Passing.{Settles}
 use Rattle.map_cells.specs.Rule.{Kept, Claimed, Published, Counted, Settled}
 use Rattle.map_cells.proofs.WordSteps.{words_small, words_pos, key_within, value_within, same_place, writes_word, count_cells}
@@ -126,9 +126,9 @@ module _ (fits : List ℕ → ℕ → ℕ → Type 0) (t : Tag) (slots id : ℕ)
   claim_allowed g i k q a place word free walk settled =
       subst (λ (x : ℕ). Allows (Kept fits (about v t)) slots id (v, c) x (λ n. either (n == 0) k n) (Claimed fits (step slots x 0 k none) (v, c))) (sym place) (claim_at g i k a word free walk settled)
 
-  publish_at : (g i k x : ℕ) → IsCell v.layout g i → IsWord k → IsWord x → look v.known (key_place v.layout g i) ≡ k → fits v.tag k x → ClosedTo v g k
+  publish_at : (g i k x : ℕ) → IsCell v.layout g i → IsWord k → IsWord x → look v.known (key_place v.layout g i) ≡ k → MayPublish fits g k x v
       → Allows (Kept fits (about v t)) slots id (v, c) (value_place v.layout g i + offset v.layout) (λ n. either (n == 0) x n) (Published fits (step slots (value_place v.layout g i + offset v.layout) 0 x none) (v, c))
-  publish_at g i k x a word value key fit closed s kept homes at small =
+  publish_at g i k x a word value key may s kept homes at small =
       let l : Layout = v.layout in
       let p : ℕ = value_place l g i in
       let q : ℕ = p + offset l in
@@ -139,6 +139,11 @@ module _ (fits : List ℕ → ℕ → ℕ → Type 0) (t : Tag) (slots id : ℕ)
       let low : q < length s.words = subst (λ (y : ℕ). q < y) (sym kept.size) (value_within l g i a) in
       let key_there : C (key_place l g i) ≡ k = keeps_value (look v.known) C here.knows (key_place l g i) k word.0 key in
       let mine = here.front in
+      let seen_before : (h : ℕ) → IsPublished l (look v.known) h k x → n ≢ 0 = λ h p zero_there.
+      let lacks : value_in kept.log k ≡ None = absent_unset l C (fits t.numbers) kept.log so.cells so.history g i k a word key_there zero_there in
+      let q = published_on l (look v.known) C here.knows h k x p in
+      let has : value_in kept.log k ≡ Some x = subst (λ (y : ℕ × ℕ). value_in kept.log y.0 ≡ Some y.1) (λ z. (q.key_is z, q.value_is z)) (so.history.kept h q.index q.cell (subst IsWord (sym q.key_is) q.key) (subst IsWord (sym q.value_is) q.value)) in
+      let bad : None ≡ Some x = sym lacks ∙ has in absurd (cc) in
       let spread : (w : View) → ValueTried fits g i k x n v w → (h j m : ℕ) → IsCell l h j → q ≡ value_place l h j + offset l → IsWord m → look v.known (key_place l h j) ≡ m → ValueTried fits h j m x n v w = λ w tried h j m b at_q word_m key_m.
       let one = value_value l g i h j a b (same_place l p (value_place l h j) at_q) in
       let same : k ≡ m = sym key ∙ (ap (λ (y : ℕ × ℕ). look v.known (key_place l y.0 y.1)) (λ z. (one.0 z, one.1 z)) ∙ key_m) in
@@ -150,7 +155,10 @@ module _ (fits : List ℕ → ℕ → ℕ → Type 0) (t : Tag) (slots id : ℕ)
       let log : List Entry = kept.log ++ e ∷ [] in
       let wr : Writes p 0 x (state_of l s.words kept.log) (state_of l ws log) = subst (λ (y : ℕ). Writes p y x (state_of l s.words kept.log) (state_of l ws log)) zero_there (writes_word l s.words kept.log log p x low) in
       let lacks : value_in kept.log k ≡ None = absent_unset l C (fits t.numbers) kept.log so.cells so.history g i k a word key_there zero_there in
-      let fit_now : fits t.numbers k x = subst (λ (y : List ℕ). fits y k x) here.tag fit in
+      let fit_now : fits t.numbers k x = ⊎_elim
+      (λ (p : (h : ℕ) × IsPublished l (look v.known) h k x). absurd (seen_before p.0 p.1 zero_there))
+      (λ (p : fits v.tag k x × ClosedTo v g k). subst (λ (y : List ℕ). fits y k x) here.tag p.0)
+      may in
       let is_step : IsStep l (fits t.numbers) (publishes v.number g i k x) (state_of l s.words kept.log) (state_of l ws log) = (a, word, value, key_there, wr, inr (lacks, fit_now, refl)) in
       let lawful = and_then kept.events (state_of l s.words kept.log) (publishes v.number g i k x) (state_of l ws log) kept.lawful is_step in
       let w : View = places l v log g i x e in
@@ -183,6 +191,7 @@ module _ (fits : List ℕ → ℕ → ℕ → Type 0) (t : Tag) (slots id : ℕ)
         };
         lost = λ nz. absurd (nz zero_there);
         present = λ y. let pos = y.0 in absurd (omega arith);
+        both = λ h p fit closed. seen_before h p;
       } in (
         w,
         keeps,
@@ -203,6 +212,7 @@ module _ (fits : List ℕ → ℕ → ℕ → Type 0) (t : Tag) (slots id : ℕ)
         won = λ z. absurd (nonzero z);
         lost = λ nz. record { looks = looks; uncounted = refl; word = look_hit v.known p n p refl };
         present = λ y. subst (λ (z : ℕ). value_in kept.log z ≡ Some n) key_there (so.history.kept g i a (subst IsWord (sym key_there) word) y);
+        both = λ h p fit closed. seen_before h p;
       } in (
         w,
         keeps,
@@ -211,10 +221,10 @@ module _ (fits : List ℕ → ℕ → ℕ → Type 0) (t : Tag) (slots id : ℕ)
         record { slots = refl; tried = spread w tried },
       ))
 
-  pub publish_allowed : (g i k x q : ℕ) → IsCell v.layout g i → q ≡ value_place v.layout g i + offset v.layout → IsWord k → IsWord x → look v.known (key_place v.layout g i) ≡ k → fits v.tag k x → ClosedTo v g k
+  pub publish_allowed : (g i k x q : ℕ) → IsCell v.layout g i → q ≡ value_place v.layout g i + offset v.layout → IsWord k → IsWord x → look v.known (key_place v.layout g i) ≡ k → MayPublish fits g k x v
       → Allows (Kept fits (about v t)) slots id (v, c) q (λ n. either (n == 0) x n) (Published fits (step slots q 0 x none) (v, c))
-  publish_allowed g i k x q a place word value key fit closed =
-      subst (λ (y : ℕ). Allows (Kept fits (about v t)) slots id (v, c) y (λ n. either (n == 0) x n) (Published fits (step slots y 0 x none) (v, c))) (sym place) (publish_at g i k x a word value key fit closed)
+  publish_allowed g i k x q a place word value key may =
+      subst (λ (y : ℕ). Allows (Kept fits (about v t)) slots id (v, c) y (λ n. either (n == 0) x n) (Published fits (step slots y 0 x none) (v, c))) (sym place) (publish_at g i k x a word value key may)
 
   -- the count after an addition of 1
   pub count_allowed : 0 < length v.uncounted → Allows (Kept fits (about v t)) slots id (v, c) 1 (λ n. (n + 1) % 2 ^ 64) (Counted fits (step slots 1 1 0 none) (v, c))

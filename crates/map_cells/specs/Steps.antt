@@ -4,7 +4,7 @@ use Rattle.map_core.specs.declared.entry.Entry.{Entry}
 use Rattle.map_core.specs.declared.view.View.{View}
 use Rattle.map_core.specs.History.{value_in, is_in, StartsWith, StartsWithOwn}
 use Rattle.map_core.specs.Places.{key_place, value_place}
-use Rattle.map_core.specs.Machine.{greatest, IsWord, Reaches, IsClosed, IsSettled}
+use Rattle.map_core.specs.Machine.{greatest, IsWord, Reaches, IsClosed, IsPublished, IsSettled}
 use Rattle.map_core.specs.Events.{entry}
 use Rattle.map_core.specs.Calls.{own}
 use Rattle.map_core.specs.Passes.{look, cell, drop_claim, Told}
@@ -82,6 +82,10 @@ module _ (fits : List ℕ → ℕ → ℕ → Type 0) where
     pub low : length (own w) ≤ n + length w.uncounted
     pub high : n ≤ length w.front
 
+  -- a pair may be published in a cell of generation g: it is seen published in some generation, or it fits and its key is seen closed below g
+  abbrev pub MayPublish : ℕ → ℕ → ℕ → View → Type 0
+  MayPublish g k x v = ((h : ℕ) × IsPublished v.layout (look v.known) h k x) ⊎ (fits v.tag k x × ClosedTo v g k)
+
   -- an exchange of an empty key word for k
   pub record KeyTried (g i k n : ℕ) (v w : View) : Type 0 where
     pub looks : Looks v w
@@ -121,6 +125,8 @@ module _ (fits : List ℕ → ℕ → ℕ → Type 0) where
     pub won : n ≡ 0 → IsPlaced g i k x v w
     pub lost : n ≢ 0 → IsLost g i n v w
     pub present : IsWord n → value_in w.front k ≡ Some n
+    -- where the pair was seen published, and might be placed as well, its value word is found set
+    pub both : (h : ℕ) → IsPublished v.layout (look v.known) h k x → fits v.tag k x → ClosedTo v g k → n ≢ 0
 
   -- an addition of 1 to the count, which is n afterwards
   pub record CountRaised (n : ℕ) (v w : View) : Type 0 where

@@ -5,7 +5,7 @@ ghost use Rattle.map_core.specs.Machine.{IsWord};
 ghost use Rattle.map_core.specs.Passes.{look};
 ghost use Rattle.map_cells.specs.Seen.{IsOf};
 ghost use Rattle.map_cells.specs.Words.{value_number, IsProperValue};
-ghost use Rattle.map_cells.specs.Steps.{ClosedTo, ValueSeen, ValueTried};
+ghost use Rattle.map_cells.specs.Steps.{MayPublish, ValueSeen, ValueTried};
 
 use crate::about::Facts;
 use crate::cells::Cells;
@@ -37,8 +37,7 @@ impl<F: Facts> Cells<F> {
         requires key { IsWord key }
         requires value { IsWord value }
         requires seen { look pass.old.knows.known (key_place pass.old.knows.layout cell.generation cell.index) ≡ key }
-        requires fits { F.fits pass.old.knows.tag key value }
-        requires closed { ClosedTo pass.old.knows cell.generation key }
+        requires fits { MayPublish F.fits cell.generation key value pass.old.knows }
         ensures table { pass.new.table ≡ pass.old.table }
         ensures word { IsProperValue result }
         ensures tried { ValueTried F.fits cell.generation cell.index key value (value_number result) pass.old.knows pass.new.knows }

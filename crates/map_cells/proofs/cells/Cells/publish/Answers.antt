@@ -8,7 +8,7 @@ use Rattle.map_core.specs.Places.{IsCell, key_place, value_place, offset, word_c
 use Rattle.map_core.specs.Machine.{Reaches}
 use Rattle.map_core.specs.Passes.{look, placed}
 use Rattle.map_cells.specs.Seen.{PassView, CellsView}
-use Rattle.map_cells.specs.Steps.{ClosedTo, SettledTo, KeySeen, KeyTried, ValueSeen, ValueTried, CountSeen, CountRaised}
+use Rattle.map_cells.specs.Steps.{MayPublish, ClosedTo, SettledTo, KeySeen, KeyTried, ValueSeen, ValueTried, CountSeen, CountRaised}
 use Rattle.map_cells.specs.Rule.{Kept, KeyLooked, ValueLooked, CountLooked, Claimed, Published, Counted}
 use Rattle.map_cells.proofs.WordSteps.{words_pos, words_small}
 use Rattle.map_cells.proofs.Allowed.{look_allowed, read_allowed, count_look_allowed}
@@ -37,12 +37,11 @@ compare_exchange-found-requires g c =
     let k : ℕ = c.args.key in
     let x : ℕ = c.args.value in
     let seen : look v.known (key_place v.layout at i) ≡ k = subst (λ (p : PassView). look p.knows.known (key_place p.knows.layout at i) ≡ k) (sym c.pass.view_is) c.requires.seen in
-    let fit : g.F.Facts.fits v.tag k x = subst (λ (p : PassView). g.F.Facts.fits p.knows.tag k x) (sym c.pass.view_is) c.requires.fits in
-    let closed : ClosedTo v at k = subst (λ (p : PassView). ClosedTo p.knows at k) (sym c.pass.view_is) c.requires.closed in (
+    let may : MayPublish g.F.Facts.fits at k x v = subst (λ (p : PassView). MayPublish g.F.Facts.fits at k x p.knows) (sym c.pass.view_is) c.requires.fits in (
       tables,
       subst (λ (n : ℕ). c.value_word-word.result < n) (sym c.self.invariant.1) c.value_word-word.ensures.within,
       subst (λ (y : Layout). Allows (Kept g.F.Facts.fits record { layout = y; tag = key.tag }) slots c.pass.inside.seat.id me c.value_word-word.result (λ n. either (n == 0) x n) (Published g.F.Facts.fits (step slots c.value_word-word.result 0 x none) me)) (inner ∙ sym c.self.invariant.0)
-          (publish_allowed g.F.Facts.fits key.tag slots c.pass.inside.seat.id v me.1 c.pass.invariant.4 at i k x c.value_word-word.result cell place c.requires.key c.requires.value seen fit closed),
+          (publish_allowed g.F.Facts.fits key.tag slots c.pass.inside.seat.id v me.1 c.pass.invariant.4 at i k x c.value_word-word.result cell place c.requires.key c.requires.value seen may),
     )
 
 pub overflow_add-pass : goal.overflow_add-pass

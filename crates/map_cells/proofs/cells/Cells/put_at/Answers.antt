@@ -1,4 +1,4 @@
-use Rattle.std.proofs.Common.{◌≡◌, ◌<◌, ℕ, sym, subst, ◌∙◌}
+use Rattle.std.proofs.Common.{List, inr, ◌≡◌, ◌<◌, ℕ, sym, subst, ◌∙◌}
 use Rattle.map_core.specs.declared.layout.Layout.{Layout}
 use Rattle.map_core.specs.declared.view.View.{View}
 use Rattle.map_core.specs.Places.{IsCell, key_place}
@@ -7,11 +7,12 @@ use Rattle.map_cells.proofs.WalkLemmas.{closed_more}
 use Rattle.map_cells.proofs.PutLemmas.{puts_new, puts_found, puts_other}
 use Rattle.map_cells.proofs.cells.Cells.put_at.Goals as goal
 
-pub publish-requires-clause-closed : goal.publish-requires-clause-closed
-publish-requires-clause-closed g c =
+pub publish-requires-clause-fits : goal.publish-requires-clause-fits
+publish-requires-clause-fits g c =
     let v : View = c.args.pass.now.knows in
     let u : View = c.key_taken-stands.new.pass.knows in
-    closed_more v u c.args.cell.generation c.args.key c.key_taken-stands.ensures.takes.looks.steps c.requires.closed c.requires.key.0
+    let steps = c.key_taken-stands.ensures.takes.looks.steps in
+    inr (subst (λ (t : List ℕ). g.F.Facts.fits t c.args.key c.args.value) (sym steps.tag) c.requires.fits, closed_more v u c.args.cell.generation c.args.key steps c.requires.closed c.requires.key.0)
 
 pub returns-in-Unset-clause-put : goal.returns-in-Unset-clause-put
 returns-in-Unset-clause-put g c =

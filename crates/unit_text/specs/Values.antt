@@ -1,5 +1,5 @@
 -- The texts of attribute values, as our text format has them; each begins with the blank behind the attribute's name.
-use Rattle.std.specs.Prelude.{ℕ, Bool, if◌then◌else◌, ◌==◌, List, [], ◌∷◌, ◌++◌, length, Result, Ok, Err, codes}
+use Rattle.std.specs.Prelude.{ℕ, Bool, if◌then◌else◌, ◌==◌, List, [], ◌++◌, length, Result, Ok, Err, codes}
 use Rattle.dw_fields.specs.declared.fault_code.Code.{Code}
 use Rattle.dw_fields.specs.Codes.{fault}
 use Rattle.dw_text.specs.Added.{labelled}

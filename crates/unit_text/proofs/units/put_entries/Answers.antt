@@ -1,4 +1,4 @@
-use Rattle.std.proofs.Common.{◌≡◌, subst, length, arith, map}
+use Rattle.std.proofs.Common.{subst}
 use Rattle.std.specs.Prelude.{Ok, Err}
 use Rattle.elf_sections.specs.Shapes.{sections_view}
 use Rattle.entry_tree.specs.declared.shapes.Entry.{Entry}

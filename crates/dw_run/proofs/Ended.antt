@@ -1,15 +1,12 @@
 -- How a command's text and the line of its refusal make up an ending.
-use Rattle.std.proofs.Common.{◌≡◌, ◌⊎◌, inl, inr, ℕ, ◌≤◌, ◌<◌, List, [], Option, Some, None, IfSome, option_map, refl, sym, ap, ◌∙◌, arith, take, ◌+◌, ◌^◌, subst}
-use Rattle.dw_outside.specs.Faults.{Rose}
+use Rattle.std.proofs.Common.{◌≡◌, ◌⊎◌, inl, inr, ℕ, ◌≤◌, ◌<◌, List, Option, Some, None, IfSome, ap, ◌∙◌, arith, take, ◌+◌, ◌^◌}
 use Rattle.dw_outside.specs.Gains.{Gains, GainsPart}
 use Rattle.dw_outside.specs.GainsLaws.{Gains-nothing, GainsPart-whole, GainsPart-nothing}
 use Rattle.elf_sections.specs.Laws.{elf_of_whole}
-use Rattle.elf_sections.specs.Names.{elf_of}
 use Rattle.dw_run.specs.declared.command.Command.{Command}
 use Rattle.dw_run.specs.declared.refusals.Refusal.{Refusal}
 use Rattle.dw_run.specs.Endings.{EndsRefused}
-use Rattle.dw_run.specs.Output.{Ends, Meets, status_of, err_of, output_of_told, told_of, told_of_table}
-use Rattle.dw_run.specs.RefusalLines.{refusal_line}
+use Rattle.dw_run.specs.Output.{Ends, Meets, status_of, output_of_told, told_of, told_of_table}
 use Rattle.dw_run.specs.Told.{Told}
 
 -- all was told, and nothing is refused

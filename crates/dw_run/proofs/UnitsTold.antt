@@ -1,13 +1,13 @@
 -- How the texts of units, one after another, make up what is told of all of them.
-use Rattle.std.proofs.Common.{◌≡◌, ℕ, zero, suc, ◌+◌, ◌-◌, List, [], ◌++◌, Option, Some, None, Result, Ok, Err, refl, sym, ap, ◌∙◌}
+use Rattle.std.proofs.Common.{◌≡◌, ℕ, suc, ◌+◌, List, [], Option, Some, None, Result, Ok, Err, refl, sym, ap, ◌∙◌}
 use Rattle.dw_fields.specs.declared.fault_code.Fault.{Fault}
 use Rattle.dw_outside.specs.Gains.{Gains, GainsPart}
-use Rattle.dw_outside.specs.GainsLaws.{Gains-nothing, Gains-then, GainsPart-then, GainsPart-more, GainsPart-nothing}
+use Rattle.dw_outside.specs.GainsLaws.{Gains-nothing, Gains-then, GainsPart-then, GainsPart-more}
 use Rattle.dw_outside.specs.declared.stops.WriteStop.{WriteStop}
 use Rattle.dw_run.specs.declared.refusals.Refusal.{Refusal}
 use Rattle.dw_run.specs.declared.refusals.Refusal.TheVariants as refusals
 use Rattle.unit_text.specs.Pieces.{Text, Gained}
-use Rattle.dw_run.specs.Told.{Told, Tells, told_at, before, whole, units_told}
+use Rattle.dw_run.specs.Told.{Tells, units_told}
 
 abbrev Answer : Type 0
 Answer = Result (Option Refusal) WriteStop

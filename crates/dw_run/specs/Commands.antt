@@ -1,8 +1,8 @@
 -- What each command tells of a file's sections.
-use Rattle.std.specs.Prelude.{◌≡◌, ℕ, ◌+◌, List, [], ◌∷◌, ◌++◌, length, Option, Some, None, Result, Ok, Err}
+use Rattle.std.specs.Prelude.{ℕ, ◌+◌, List, [], ◌∷◌, ◌++◌, Option, Some, None}
 use Rattle.dw_fields.specs.declared.fault_code.Fault.{Fault}
 use Rattle.elf_sections.specs.Rows.{ElfView, Row}
-use Rattle.elf_sections.specs.Shapes.{SectionsView, sections_of}
+use Rattle.elf_sections.specs.Shapes.{sections_of}
 use Rattle.unit_text.specs.SectionLine.{section_line}
 use Rattle.unit_text.specs.Tables.{tables_text}
 use Rattle.dw_run.specs.declared.command.Command.{Command}

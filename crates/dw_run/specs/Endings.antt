@@ -1,5 +1,5 @@
 -- What a run leaves on standard error, and its status.
-use Rattle.std.specs.Prelude.{◌≡◌, ℕ, ◌<◌, ◌≤◌, ◌⊎◌, List, [], ◌∷◌, ◌++◌, Option, codes}
+use Rattle.std.specs.Prelude.{◌≡◌, ℕ, ◌<◌, ◌≤◌, ◌⊎◌, List, [], ◌∷◌, ◌++◌, Option}
 use Rattle.dw_outside.specs.Faults.{Rose}
 use Rattle.dw_outside.specs.Gains.{Gains, GainsPart}
 use Rattle.dw_run.specs.declared.refusals.Refusal.{Refusal}

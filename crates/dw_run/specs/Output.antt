@@ -1,6 +1,6 @@
 -- What the top call gives: the status, the bytes on standard output and the line on standard error, for
 -- words and for what each name holds.
-use Rattle.std.specs.Prelude.{◌≡◌, ℕ, ◌<◌, ◌≤◌, ◌⊎◌, List, [], ◌∷◌, ◌++◌, Option, Some, None, Result, Ok, Err, codes, option_map}
+use Rattle.std.specs.Prelude.{◌≡◌, ℕ, ◌<◌, ◌≤◌, ◌⊎◌, List, [], Option, Some, None, Result, Ok, Err, codes, option_map}
 use Rattle.dw_outside.specs.Faults.{Rose}
 use Rattle.dw_outside.specs.Gains.{Gains, GainsPart}
 use Rattle.elf_sections.specs.Names.{elf_of}

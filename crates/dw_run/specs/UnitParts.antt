@@ -1,5 +1,5 @@
 -- What the commands tell of each unit.
-use Rattle.std.specs.Prelude.{ℕ, List, length, Result, Ok, Err}
+use Rattle.std.specs.Prelude.{ℕ, length, Ok}
 use Rattle.dw_fields.specs.Reading.{◌>>=◌}
 use Rattle.elf_sections.specs.Shapes.{SectionsView}
 use Rattle.entry_tree.specs.Units.{entries_of, facts_of}

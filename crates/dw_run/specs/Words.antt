@@ -1,5 +1,5 @@
 -- What a command line means: `COMMAND FILE`, where the file's word begins with no dash.
-use Rattle.std.specs.Prelude.{ℕ, List, [], ◌∷◌, Bool, true, false, Option, Some, None, option_map, codes, if◌then◌else◌, ◌==◌}
+use Rattle.std.specs.Prelude.{ℕ, List, [], ◌∷◌, Bool, false, Option, Some, None, option_map, codes, if◌then◌else◌, ◌==◌}
 use Rattle.std.specs.Str.{bytes_eq}
 use Rattle.dw_run.specs.declared.command.Command.{Command}
 use Rattle.dw_run.specs.declared.command.Command.TheVariants as commands

@@ -1,5 +1,5 @@
 -- The text of a unit's line table, or the first refusal of its line program.
-use Rattle.std.specs.Prelude.{ℕ, List, [], ◌∷◌, ◌++◌, Option, Some, None, Result, Ok, Err, codes}
+use Rattle.std.specs.Prelude.{ℕ, List, [], ◌∷◌, ◌++◌, Option, Some, None, Ok, codes}
 use Rattle.dw_fields.specs.Reading.{◌>>=◌}
 use Rattle.dw_text.specs.Added.{labelled}
 use Rattle.dw_text.specs.Numbers.{decimal, hex}

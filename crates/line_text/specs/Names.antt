@@ -1,5 +1,5 @@
 -- The lines of a line table's directories and files, numbered from 0.
-use Rattle.std.specs.Prelude.{ℕ, ◌+◌, List, [], ◌∷◌, ◌++◌, codes}
+use Rattle.std.specs.Prelude.{ℕ, List, [], ◌∷◌, ◌++◌, codes}
 use Rattle.dw_text.specs.Added.{labelled}
 use Rattle.dw_text.specs.Escapes.{escaped}
 use Rattle.dw_text.specs.Numbers.{decimal}

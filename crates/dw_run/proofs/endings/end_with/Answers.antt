@@ -1,4 +1,4 @@
-use Rattle.std.proofs.Common.{arith, inl, inr, refl}
+use Rattle.std.proofs.Common.{inl, refl}
 use Rattle.dw_outside.specs.GainsLaws.{GainsPart-whole}
 use Rattle.dw_run.proofs.endings.end_with.Goals as goal
 

@@ -1,4 +1,3 @@
-use Rattle.std.proofs.Common.{sym}
 use Rattle.dw_run.proofs.Ended.{ends_done, ends_refused}
 use Rattle.dw_run.proofs.program.tell_and_end.Goals as goal
 

@@ -1,4 +1,4 @@
-use Rattle.std.proofs.Common.{◌≡◌, ◌++◌, map, ℕ, drop}
+use Rattle.std.proofs.Common.{◌≡◌, ◌++◌, map, drop}
 use Rattle.elf_sections.specs.Shapes.{row}
 use Rattle.dw_run.specs.Commands.{sections_text}
 use Rattle.dw_run.proofs.section_lines.push_sections.Given as goal

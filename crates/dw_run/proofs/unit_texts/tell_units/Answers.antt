@@ -1,6 +1,5 @@
-use Rattle.std.proofs.Common.{rules, arith, ◌≡◌, ◌<◌, ◌≤◌, ℕ, List, Result, Ok, Err, Some, None, ◌+◌, ◌-◌, suc, refl, sym, ◌∙◌}
+use Rattle.std.proofs.Common.{arith, Ok, Err, Some, None, ◌+◌, ◌-◌, refl, sym, ◌∙◌}
 use Rattle.std.proofs.Math.Nat.{sub-zero}
-use Rattle.dw_outside.specs.Faults.{HasCause}
 use Rattle.dw_outside.specs.GainsLaws.{GainsPart-nothing, Gains-nothing}
 use Rattle.dw_outside.specs.declared.stops.WriteStop.TheVariants as write_stops
 use Rattle.dw_run.specs.declared.refusals.Refusal.TheVariants as refusals

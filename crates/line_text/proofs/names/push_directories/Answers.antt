@@ -1,4 +1,4 @@
-use Rattle.std.proofs.Common.{Bor, ℕ, List, arith, ap, ◌∙◌, Ok, Err, ◌++◌}
+use Rattle.std.proofs.Common.{Bor, ℕ, List, arith, Ok, Err}
 use Rattle.line_text.proofs.Lines.{numbered_next, numbered_end}
 use Rattle.line_text.specs.Names.{directory_line}
 use Rattle.line_text.proofs.names.push_directories.Goals as goal

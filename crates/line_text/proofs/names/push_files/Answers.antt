@@ -1,4 +1,4 @@
-use Rattle.std.proofs.Common.{arith, ap, ◌∙◌, Ok, Err, ◌++◌}
+use Rattle.std.proofs.Common.{arith, Ok, Err}
 use Rattle.line_text.proofs.Lines.{numbered_next, numbered_end}
 use Rattle.line_text.specs.Names.{file_line}
 use Rattle.line_programs.specs.Shapes.{name_view}

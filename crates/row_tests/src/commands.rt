@@ -1,5 +1,6 @@
 //! The commands of a line.
 
+use crate::calls::call;
 use crate::hex::bytes_of;
 use crate::rows::Row;
 use dw_outside::{MemorySink, MemorySource};
@@ -26,6 +27,11 @@ pub fn obey<R: Print + AllocGlobal>(rt: &R, row: &mut Row, line: &str) -> io::Re
             row.fail(name, call.parse::<u64>().unwrap_or(0))?;
         }
         "run" => answer(rt, row, rest)?,
+        "call" => {
+            let (name, hex) = rest.split_once(' ').unwrap_or((rest, ""));
+            let bytes = bytes_of(alloc, hex)?;
+            call(rt, name, bytes.as_slice())?;
+        }
         _ => {}
     }
     Ok(())

@@ -4,8 +4,10 @@
 //! takes the bytes as they are; `cut N` keeps the first N bytes of the file; `set N HEX` overwrites from
 //! byte N on; `fail NAME CALL` lets that call of the source, of out or of err fail in the next run; and
 //! `run WORD ..` runs the top call, where the file is named F, and prints out, err and the status.
+//! `call NAME HEX` makes one call of a cut over these bytes.
 #![tactic(auto)]
 
+mod calls;
 mod commands;
 mod hex;
 mod rows;

@@ -54,6 +54,6 @@ joins fits t id other v u told_v told_u free not_first s kept at ne there =
       events = kept.events;
       log = kept.log;
       lawful = kept.lawful;
-      together = join_keeps v.layout t.numbers (state_of v.layout s.words kept.log) s.views id other v u at (sym (set_else s.views id other (put_together v u) ne) ∙ there) ne (told_v.live, told_u.live) (told_v.alone.1, told_u.alone.1) free not_first kept.together;
+      together = join_keeps v.layout t.numbers (state_of v.layout s.words kept.log) s.views id other v u at (sym (set_else s.views id other (put_together v u) ne) ∙ there) ne (told_v.live, told_u.live) (told_v.alone.1, told_u.alone.1) (told_v.alone.0, told_u.alone.0) free not_first kept.together;
       size = kept.size;
     }

@@ -221,12 +221,14 @@ module _ (fits : List ℕ → ℕ → ℕ → Type 0) (g k : ℕ) where
       let small : i + 1 < cells = omega arith in
       m.0 ∙ spot_next g k d i is (subst (λ (x : ℕ). i + 1 < x) whole small))
 
-  -- a walk that met no end: the front lacks the key, and is full
-  pub walk_ends : (d i : ℕ) (v w : View) → Walked fits g k d i v w → IsWord k → is_in g v.currents ≡ true → cells_of g ≤ d → (Rattle.map_core.specs.History.value_in w.front k ≡ None) × (w.layout.capacity ≤ length w.front)
+  -- a walk that met no end: the front lacks the key, and is full, and each cell of the last generation is seen with another key
+  pub walk_ends : (d i : ℕ) (v w : View) → Walked fits g k d i v w → IsWord k → is_in g v.currents ≡ true → cells_of g ≤ d
+      → (Rattle.map_core.specs.History.value_in w.front k ≡ None) × (w.layout.capacity ≤ length w.front) × Passed w.layout (look w.known) w.layout.last k (cells_of w.layout.last)
   walk_ends d i v w at word current whole =
       let told = at.walks.told in
       let current' : is_in g w.currents ≡ true = ap (λ (x : List ℕ). is_in g x) at.walks.looks.steps.currents ∙ current in
       let last = current_last fits w g told current' in
       let e : d ≡ cells_of g = let s = at.steps in omega arith in
       let passed : Passed w.layout (look w.known) w.layout.last k (cells_of w.layout.last) = subst (λ (x : ℕ). Passed w.layout (look w.known) x k (cells_of x)) last (subst (λ (x : ℕ). Passed w.layout (look w.known) g k x) e at.passed) in
-      told.ends g k word current' (λ h a b. absurd (omega arith)) passed
+      let ends = told.ends g k word current' (λ h a b. absurd (omega arith)) passed in
+      (ends.0, ends.1, passed)

@@ -1,9 +1,10 @@
 -- What the two walks answer, and what one cell tells them.
 use Rattle.std.specs.Prelude.{◌≡◌, ◌≢◌, ℕ, ◌≤◌, List, [], ◌∷◌, ◌++◌, length, Some, None}
 use Rattle.map_core.specs.declared.view.View.{View}
+use Rattle.map_core.specs.Sizes.{cells_of}
 use Rattle.map_core.specs.History.{value_in}
 use Rattle.map_core.specs.Places.{key_place}
-use Rattle.map_core.specs.Machine.{IsWord, IsPublished}
+use Rattle.map_core.specs.Machine.{IsWord, Passed, IsPublished}
 use Rattle.map_core.specs.Events.{entry}
 use Rattle.map_core.specs.Calls.{own}
 use Rattle.map_core.specs.Passes.{look, Told}
@@ -51,9 +52,10 @@ module _ (fits : List ℕ → ℕ → ℕ → Type 0) where
     pub value : value_in w.front k ≡ Some x
     pub seen : IsSeenFrom g k x w
 
-  -- no cell was left
+  -- no cell was left: each cell of the last generation is seen with another key
   pub record PutsNone (k : ℕ) (v w : View) : Type 0 where
     pub walks : Walks fits v w
+    pub others : Passed w.layout (look w.known) w.layout.last k (cells_of w.layout.last)
     pub lacks : value_in w.front k ≡ None
     pub full : w.layout.capacity ≤ length w.front
 

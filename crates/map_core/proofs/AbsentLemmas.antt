@@ -1,8 +1,7 @@
 -- Where a walk ends with no value, the history lacks the key.
-use Rattle.std.proofs.Common.{◌≡◌, ◌≢◌, ℕ, ◌+◌, ◌<◌, ◌≤◌, List, Option, Some, None, refl, sym, ap, subst, ◌∙◌, arith}
+use Rattle.std.proofs.Common.{◌≡◌, ℕ, List, Option, Some, None, refl, sym, subst, ◌∙◌, arith}
 use Rattle.map_core.specs.declared.entry.Entry.{Entry}
 use Rattle.map_core.specs.declared.layout.Layout.{Layout}
-use Rattle.map_core.specs.Sizes.{cells_of}
 use Rattle.map_core.specs.History.{value_in}
 use Rattle.map_core.specs.Places.{key_place, value_place, spot, IsCell}
 use Rattle.map_core.specs.Machine.{IsWord, Reaches, IsPublished, OneCellPerKey, OneHistory}

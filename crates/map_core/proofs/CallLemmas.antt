@@ -1,14 +1,13 @@
 -- Calls through one pass stand in one history, each once.
-use Rattle.std.proofs.Common.{◌≡◌, ℕ, ◌≤◌, Bool, List, [], ◌∷◌, ◌++◌, Option, Some, None, refl, sym, ap, subst, ◌∙◌, inl, inr, ⊎_elim, append_assoc, append-nil, if◌then◌else◌, eq-eqb, ne_eqb, ◌≢◌}
+use Rattle.std.proofs.Common.{◌≡◌, ℕ, Bool, List, [], ◌∷◌, ◌++◌, Option, Some, None, refl, sym, ap, subst, ◌∙◌, append_assoc, append-nil, if◌then◌else◌, eq-eqb, ne_eqb, ◌≢◌}
 use mathlib.Core.Logic.{dite}
 use native.Mathlib.Decide.{ℕ_discrete}
 use Rattle.map_core.specs.declared.entry.Entry.{Entry}
 use Rattle.map_core.specs.declared.view.View.{View}
 use Rattle.map_core.specs.PlainMap.{plain_get, plain_keep, kept_at}
-use Rattle.map_core.specs.History.{kept_in, plain_map, value_in, IsLegalHistory, by_any, StartsWith, StartsWithOwn}
-use Rattle.map_core.specs.Events.{entry}
-use Rattle.map_core.specs.Calls.{own, SamePass, IsPoint, FindsAt, PlacesAt, FoundAt, FullAt, Call, finds, places, meets, is_full, CallAt, point_of, CallsInOrder, no_calls, call_then, points_of, Ascends, placed_by, HoldCallsOnce}
-use Rattle.map_core.proofs.HistoryLemmas.{value_hit, value_miss}
+use Rattle.map_core.specs.History.{kept_in, plain_map, value_in, StartsWith}
+use Rattle.map_core.specs.Calls.{own, SamePass, IsPoint, Call, finds, places, meets, is_full, CallAt, point_of, CallsInOrder, no_calls, call_then, points_of, Ascends, placed_by, AllMeet, HoldCallsOnce}
+use Rattle.map_core.proofs.HistoryLemmas.{value_hit, value_miss, value_stays}
 
 pub starts_same : (a : List Entry) → StartsWith a a
 starts_same a = record { rest = []; joins = append-nil a }
@@ -71,6 +70,10 @@ pub map_get : (es : List Entry) (k : ℕ) → plain_get (plain_map es) k ≡ val
 unfolding first_of
 map_get es k = kept_get es [] k
 
+-- a longer front has what a front has
+pub value_longer : (a b : List Entry) (k x : ℕ) → StartsWith a b → value_in a k ≡ Some x → value_in b k ≡ Some x
+value_longer a b k x p h = subst (λ (l : List Entry). value_in l k ≡ Some x) p.joins (value_stays a p.rest k x h)
+
 same_then : (v u w : View) → SamePass v u → SamePass u w → SamePass v w
 same_then v u w a b = record { number = b.number ∙ a.number; numbers = b.numbers ∙ a.numbers; spare = b.spare ∙ a.spare; tag = b.tag ∙ a.tag }
 
@@ -98,15 +101,42 @@ module _ (fits : ℕ → ℕ → Type 0) (capacity : ℕ) where
   ascends_from a b to [] p q = starts_trans a b to p q
   ascends_from a b to (C ∷ Cs) p q = (starts_trans a b C p q.0, q.1)
 
+  -- a call meets what the front had
+  call_meets : (c : Call) (cs : List Call) (v u : View) (at : CallAt fits capacity c v u) (key value : ℕ) → value_in v.front key ≡ Some value → AllMeet key value cs → AllMeet key value (c ∷ cs)
+  call_meets (finds k answer) cs v u at key value had rest =
+      (λ same. at.value ∙ (map_get u.front k ∙ (ap (value_in u.front) same ∙ value_longer v.front u.front key value at.point.after had)), rest)
+  call_meets (places k x) cs v u at key value had rest = (
+    λ same.
+        let there : plain_get (plain_map at.lower) k ≡ Some value = map_get at.lower k ∙ (ap (value_in at.lower) same ∙ value_longer v.front at.lower key value at.front had) in
+        let bad : Some value ≡ None = sym there ∙ at.lacks in absurd (cc),
+    rest,
+  )
+  call_meets (meets k found) cs v u at key value had rest = (
+    λ same.
+        let there : plain_get (plain_map u.front) k ≡ Some value = map_get u.front k ∙ (ap (value_in u.front) same ∙ value_longer v.front u.front key value at.point.after had) in
+        let both : Some found ≡ Some value = sym at.value ∙ there in cc,
+    rest,
+  )
+  call_meets (is_full k) cs v u at key value had rest = (
+    λ same.
+        let there : plain_get (plain_map u.front) k ≡ Some value = map_get u.front k ∙ (ap (value_in u.front) same ∙ value_longer v.front u.front key value at.point.after had) in
+        let bad : Some value ≡ None = sym there ∙ at.lacks in absurd (cc),
+    rest,
+  )
+
   pub calls_once : (cs : List Call) (v w : View) (calls : CallsInOrder fits capacity cs v w) → HoldCallsOnce capacity fits cs v w calls
-  calls_once _ _ _ (no_calls v) = record { ascend = starts_same v.front; own = sym (append-nil (own v)); same = record { number = refl; numbers = refl; spare = refl; tag = refl } }
+  calls_once _ _ _ (no_calls v) = record { ascend = starts_same v.front; own = sym (append-nil (own v)); same = record { number = refl; numbers = refl; spare = refl; tag = refl }; meet = λ key value had. tt; stays = λ key value had. had }
   calls_once _ _ _ (call_then c cs v u w at rest) =
       let later = calls_once cs u w rest in
       let point = call_point c v u at in
       let first = call_own c v u at in
+      let kept : (key value : ℕ) → value_in v.front key ≡ Some value → value_in u.front key ≡ Some value = λ key value had.
+      value_longer v.front u.front key value (starts_trans v.front (point_of fits capacity c v u at) u.front point.after point.before) had in
       let number : placed_by u.number cs ≡ placed_by v.number cs = ap (λ (n : ℕ). placed_by n cs) point.same.number in
       record {
         ascend = (point.after, ascends_from (point_of fits capacity c v u at) u.front w.front (points_of fits capacity cs u w rest) point.before later.ascend);
         own = later.own ∙ (ap (λ (x : List Entry). x ++ placed_by u.number cs) first ∙ (ap (λ (x : List Entry). (own v ++ placed_by v.number (c ∷ [])) ++ x) number ∙ (append_assoc (own v) (placed_by v.number (c ∷ [])) (placed_by v.number cs) ∙ ap (λ (x : List Entry). own v ++ x) (placed_first v.number c cs))));
         same = same_then v u w point.same later.same;
+        meet = λ key value had. call_meets c cs v u at key value had (later.meet key value (kept key value had));
+        stays = λ key value had. later.stays key value (kept key value had);
       }

@@ -1,23 +1,23 @@
 -- How many: different numbers in a list, entries among the words, and a last generation that is full.
-use Rattle.std.proofs.Common.{◌≡◌, ◌≢◌, ◌⊎◌, ℕ, zero, suc, ◌+◌, ◌-◌, ◌*◌, ◌<◌, ◌≤◌, Bool, true, false, List, [], ◌∷◌, ◌++◌, length, map, slice_index, Option, Some, None, ◌||◌, ◌==◌, if◌then◌else◌, refl, sym, ap, subst, ◌∙◌, inl, inr, ⊎_elim, arith, eq-eqb, ne_eqb, eqb-true, length-append, true≢false}
+use Rattle.std.proofs.Common.{◌≡◌, ◌≢◌, ℕ, zero, suc, ◌+◌, ◌*◌, ◌<◌, ◌≤◌, Bool, true, false, List, [], ◌∷◌, ◌++◌, length, slice_index, Option, Some, None, ◌||◌, ◌==◌, if◌then◌else◌, refl, sym, ap, subst, ◌∙◌, ⊎_elim, arith, eq-eqb, ne_eqb, length-append, true≢false}
 use mathlib.Core.Logic.{dite}
 use mathlib.Core.Option.{some, some-injective, some-ne-none}
-use native.Mathlib.Decide.{ℕ_discrete, dec_lt}
+use native.Mathlib.Decide.{ℕ_discrete}
 use lib.ListN.{get_elem?}
 use Rattle.atomic_table.proofs.Lists.{one_turn}
 use Rattle.map_core.specs.declared.cell.Cell.{Cell}
 use Rattle.map_core.specs.declared.entry.Entry.{Entry}
 use Rattle.map_core.specs.declared.layout.Layout.{Layout}
 use Rattle.map_core.specs.declared.view.View.{View}
-use Rattle.map_core.specs.Sizes.{cells_of, IsLastFor}
+use Rattle.map_core.specs.Sizes.{cells_of}
 use Rattle.map_core.specs.History.{value_in, IsLegalHistory, is_in, by_any}
-use Rattle.map_core.specs.Places.{lowest, offset, word_count, key_place, value_place, cells_in, home, spot, Within, IsCell}
-use Rattle.map_core.specs.Machine.{greatest, IsWord, Keeps, State, Passed, Reaches, IsPublished, IsUnset, OneCellPerKey, OneHistory}
-use Rattle.map_core.specs.Passes.{cell, placed, total, WhoBelow, Distinct, CountIsHonest, HasClaim, OpenClaims}
+use Rattle.map_core.specs.Places.{offset, key_place, value_place, cells_in, home, spot, IsCell}
+use Rattle.map_core.specs.Machine.{IsWord, State, Passed, Reaches, OneCellPerKey, OneHistory}
+use Rattle.map_core.specs.Passes.{cell, placed, total, WhoBelow, Distinct, CountIsHonest, OpenClaims}
 use Rattle.map_core.proofs.PlaceLemmas.{one_generation, last_within, spot_cell}
 use Rattle.map_core.proofs.WordLemmas.{one_cell}
 use Rattle.map_core.proofs.HistoryLemmas.{value_hit, value_miss, by_hit, test_cases}
-use Rattle.map_core.proofs.PassLemmas.{in_append, in_first, in_second, or_false}
+use Rattle.map_core.proofs.PassLemmas.{in_first, in_second}
 
 pub in_hit : (n k : ℕ) (ns : List ℕ) → n ≡ k → is_in n (k ∷ ns) ≡ true
 in_hit n k ns is = subst (λ (b : Bool). (b || is_in n ns) ≡ true) (sym (eq-eqb n k is)) refl

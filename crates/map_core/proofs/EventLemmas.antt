@@ -1,16 +1,14 @@
 -- Each event keeps the facts on the words and the history.
-use Rattle.std.proofs.Common.{◌≡◌, ◌≢◌, ◌⊎◌, ℕ, ◌+◌, ◌*◌, ◌/◌, ◌<◌, ◌≤◌, List, [], ◌∷◌, ◌++◌, Option, Some, None, refl, sym, ap, subst, ◌∙◌, inl, inr, ⊎_elim, arith}
+use Rattle.std.proofs.Common.{◌≡◌, ℕ, ◌<◌, List, [], ◌∷◌, ◌++◌, Some, None, sym, ap, subst, ◌∙◌, ⊎_elim}
 use mathlib.Core.Logic.{dite}
 use native.Mathlib.Decide.{ℕ_discrete}
 use Rattle.map_core.specs.declared.entry.Entry.{Entry}
 use Rattle.map_core.specs.declared.layout.Layout.{Layout}
-use Rattle.map_core.specs.Sizes.{cells_of}
-use Rattle.map_core.specs.History.{value_in, IsLegalHistory}
-use Rattle.map_core.specs.Places.{key_place, value_place, finish_place, spot, Within, IsCell}
-use Rattle.map_core.specs.Machine.{greatest, IsWord, Keeps, Only, Passed, Reaches, IsPublished, OneCellPerKey, OneHistory, State, Sound}
-use Rattle.map_core.specs.Events.{Event, entry, Writes, Adds, IsStep}
-use Rattle.map_core.proofs.PlaceLemmas.{last_within, key_key, value_value, key_value, value_key, key_finish, value_finish}
-use Rattle.map_core.proofs.WordLemmas.{keeps_at, keeps_word, keeps_value, reaches_on, published_on, one_cell}
+use Rattle.map_core.specs.History.{value_in}
+use Rattle.map_core.specs.Places.{key_place, value_place, IsCell}
+use Rattle.map_core.specs.Machine.{greatest, IsWord, Keeps, Only, Reaches, OneCellPerKey, OneHistory}
+use Rattle.map_core.proofs.PlaceLemmas.{last_within, key_key, value_value, key_value, value_key}
+use Rattle.map_core.proofs.WordLemmas.{keeps_at, keeps_word, reaches_on, published_on}
 use Rattle.map_core.proofs.HistoryLemmas.{value_stays, value_pushed, value_new, legal_push}
 
 module _ (l : Layout) (C D : ℕ → ℕ) where

@@ -1,10 +1,9 @@
 -- Histories grow at their end.
-use Rattle.std.proofs.Common.{◌≡◌, ◌≢◌, ◌⊎◌, ℕ, ◌+◌, ◌<◌, ◌≤◌, Bool, true, false, List, [], ◌∷◌, ◌++◌, length, Option, Some, None, ◌||◌, ◌==◌, if◌then◌else◌, refl, sym, ap, subst, ◌∙◌, inl, inr, ⊎_elim, arith, append_assoc, append-nil, eq-eqb, ne_eqb, length-append}
+use Rattle.std.proofs.Common.{◌≡◌, ◌≢◌, ◌⊎◌, ℕ, Bool, true, false, List, [], ◌∷◌, ◌++◌, Some, None, if◌then◌else◌, refl, sym, ap, subst, ◌∙◌, inl, inr, ⊎_elim, eq-eqb, ne_eqb}
 use mathlib.Core.Logic.{dite}
 use native.Mathlib.Decide.{ℕ_discrete}
 use Rattle.map_core.specs.declared.entry.Entry.{Entry}
-use Rattle.map_core.specs.PlainMap.{plain_get, plain_keep, kept_at}
-use Rattle.map_core.specs.History.{kept_in, plain_map, value_in, IsLegalHistory, is_in, by_any, StartsWith, StartsWithOwn}
+use Rattle.map_core.specs.History.{value_in, IsLegalHistory, is_in, by_any}
 
 pub value_hit : (e : Entry) (es : List Entry) (k : ℕ) → e.key ≡ k → value_in (e ∷ es) k ≡ Some e.value
 value_hit e es k is = subst (λ (b : Bool). (if b then Some e.value else value_in es k) ≡ Some e.value) (sym (eq-eqb e.key k is)) refl

@@ -1,21 +1,19 @@
 -- The first step of a join keeps the facts: two views become one, and one that is gone.
-use Rattle.std.proofs.Common.{◌≡◌, ◌≢◌, ◌⊎◌, ℕ, zero, suc, ◌+◌, ◌-◌, ◌*◌, ◌<◌, ◌≤◌, Bool, true, false, List, [], ◌∷◌, ◌++◌, length, set, Option, Some, None, ◌||◌, ◌==◌, if◌then◌else◌, refl, sym, ap, subst, ◌∙◌, inl, inr, ⊎_elim, arith, append_assoc, append-nil, eq-eqb, ne_eqb, length-append, length-set, true≢false}
+use Rattle.std.proofs.Common.{◌≡◌, ◌≢◌, ◌⊎◌, ℕ, suc, ◌+◌, ◌<◌, Bool, true, false, List, [], ◌∷◌, ◌++◌, length, set, Some, None, ◌||◌, refl, sym, ap, subst, ◌∙◌, inl, inr, ⊎_elim, arith, append-nil, length-append, length-set, true≢false}
 use mathlib.Core.Logic.{dite}
-use mathlib.Core.Option.{some, some-injective, some-ne-none}
+use mathlib.Core.Option.{some, some-injective}
 use native.Mathlib.Decide.{ℕ_discrete}
 use lib.ListN.{get_elem?}
 use Rattle.atomic_table.proofs.Lists.{at_set, set_here, set_else}
-use Rattle.map_core.specs.declared.cell.Cell.{Cell}
 use Rattle.map_core.specs.declared.entry.Entry.{Entry}
 use Rattle.map_core.specs.declared.layout.Layout.{Layout}
 use Rattle.map_core.specs.declared.view.View.{View}
-use Rattle.map_core.specs.History.{value_in, IsLegalHistory, is_in, by_any, StartsWith, StartsWithOwn}
-use Rattle.map_core.specs.Places.{IsCell}
-use Rattle.map_core.specs.Machine.{IsWord, Keeps, State, IsUnset}
-use Rattle.map_core.specs.Passes.{look, cell, all_numbers, placed, AtRest, total, WhoBelow, Distinct, PassAt, HasFirst, FrontsOfOneHistory, CountIsHonest, HasClaim, OpenClaims, Together}
+use Rattle.map_core.specs.History.{is_in, by_any, StartsWithOwn}
+use Rattle.map_core.specs.Machine.{State}
+use Rattle.map_core.specs.Passes.{cell, all_numbers, placed, total, WhoBelow, Distinct, PassAt, HasFirst, SeesAll, FrontsOfOneHistory, CountIsHonest, HasClaim, OpenClaims, Together}
 use Rattle.map_core.specs.Knowing.{put_together, gone}
-use Rattle.map_core.proofs.HistoryLemmas.{by_hit, by_miss, by_append, test_cases}
-use Rattle.map_core.proofs.PassLemmas.{there_below, in_append, in_first, in_second, not_in_parts, total_set, Apart, apart_back}
+use Rattle.map_core.proofs.HistoryLemmas.{by_hit, by_miss, test_cases}
+use Rattle.map_core.proofs.PassLemmas.{there_below, in_append, in_first, total_set, Apart, apart_back}
 use Rattle.map_core.proofs.CountLemmas.{in_hit, in_miss}
 
 -- a number in two lists together is in one of them
@@ -76,8 +74,15 @@ by_two ns ms (e ∷ es) apart =
     (test_cases (is_in e.who ms)))
     (test_cases (is_in e.who ns))
 
+-- a front of an empty history is empty
+nothing_before : (ns : List ℕ) (front log : List Entry) → StartsWithOwn ns front log → log ≡ [] → front ≡ log
+nothing_before ns [] log p none = sym none
+nothing_before ns (e ∷ es) log p none =
+    let n : ℕ = length (es ++ p.rest) in
+    let long : suc n ≡ 0 = ap (λ (x : List Entry). length x) (p.joins ∙ none) in absurd (omega arith)
+
 module _ (l : Layout) (mark : List ℕ) (s : State) (views : List View) (i j : ℕ) (v w : View) (at : get_elem? views i ≡ some v) (there : get_elem? views j ≡ some w) (ne : j ≢ i)
-    (live : (v.live ≡ true) × (w.live ≡ true)) (alone : (v.beside_numbers ≡ []) × (w.beside_numbers ≡ [])) (free : w.claim ≡ None) (not_first : w.number ≢ 0) (old : Together l mark s views) where
+    (live : (v.live ≡ true) × (w.live ≡ true)) (alone : (v.beside_numbers ≡ []) × (w.beside_numbers ≡ [])) (empty : (v.beside ≡ []) × (w.beside ≡ [])) (free : w.claim ≡ None) (not_first : w.number ≢ 0) (old : Together l mark s views) where
   p : PassAt l mark s i v
   p = old.fronts.each i v at live.0
 
@@ -177,6 +182,25 @@ module _ (l : Layout) (mark : List ℕ) (s : State) (views : List View) (i j : �
   unfolding end mid
   first_else nj ni = set_else mid j 0 gone nj ∙ set_else views i 0 both ni
 
+  -- the one that has seen all has done so still, by itself or as part of the joined pass
+  join_whole : SeesAll l mark s end
+  unfolding end mid both
+  join_whole =
+      let c = old.fronts.whole in
+      let whose_front : (x : View) (k : ℕ) → x ≡ c.view → x.beside ≡ [] → PassAt l mark s k x → x.front ≡ s.history = λ x k same none at_x. ⊎_elim
+      (λ (f : c.view.front ≡ s.history). ap (λ (y : View). y.front) same ∙ f)
+      (λ (f : c.view.beside ≡ s.history). nothing_before x.numbers x.front s.history at_x.front (sym f ∙ (sym (ap (λ (y : View). y.beside) same) ∙ none)))
+      c.front in
+      let r : SeesAll l mark s end = dite (ℕ_discrete c.who j)
+      (λ e.
+      let same : w ≡ c.view = some-injective w c.view (sym there ∙ subst (λ (x : ℕ). get_elem? views x ≡ some c.view) e c.at) in
+      record { who = i; view = both; at = at_end; live = live.0; front = inr (whose_front w j same empty.1 q) })
+      (λ nj. dite (ℕ_discrete c.who i)
+      (λ e.
+      let same : v ≡ c.view = some-injective v c.view (sym at ∙ subst (λ (x : ℕ). get_elem? views x ≡ some c.view) e c.at) in
+      record { who = i; view = both; at = at_end; live = live.0; front = inl (whose_front v i same empty.0 p) })
+      (λ ni. record { who = c.who; view = c.view; at = set_else mid j c.who gone nj ∙ (set_else views i c.who both ni ∙ c.at); live = c.live; front = c.front })) in r
+
   join_fronts : FrontsOfOneHistory l mark s end
   unfolding both
   join_fronts =
@@ -239,6 +263,7 @@ module _ (l : Layout) (mark : List ℕ) (s : State) (views : List View) (i j : �
               live = f.live;
               made = ap (λ (x : ℕ). x + f.view.spare) end_length ∙ f.made;
             }) in r;
+        whole = join_whole;
       }
 
   join_count : CountIsHonest l mark s end

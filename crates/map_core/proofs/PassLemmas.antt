@@ -1,19 +1,17 @@
 -- A step of one pass keeps what is true of all passes.
-use Rattle.std.proofs.Common.{◌≡◌, ◌≢◌, ◌⊎◌, ℕ, zero, suc, ◌+◌, ◌-◌, ◌*◌, ◌<◌, ◌≤◌, Bool, true, false, List, [], ◌∷◌, ◌++◌, length, set, Option, Some, None, ◌||◌, ◌==◌, if◌then◌else◌, refl, sym, ap, subst, ◌∙◌, inl, inr, ⊎_elim, arith, append_assoc, append-nil, eq-eqb, ne_eqb, eqb-true, length-append, length-set, true≢false}
+use Rattle.std.proofs.Common.{◌≡◌, ◌≢◌, ℕ, zero, suc, ◌+◌, ◌<◌, ◌≤◌, Bool, true, false, List, [], ◌∷◌, ◌++◌, length, set, Some, ◌||◌, ◌==◌, refl, sym, ap, subst, ◌∙◌, inl, ⊎_elim, arith, append_assoc, append-nil, length-set, true≢false}
 use mathlib.Core.Logic.{dite}
 use mathlib.Core.Option.{some, some-injective, some-ne-none}
 use native.Mathlib.Decide.{ℕ_discrete}
 use lib.ListN.{get_elem?}
 use Rattle.atomic_table.proofs.Lists.{at_set, set_here, set_else}
-use Rattle.map_core.specs.declared.cell.Cell.{Cell}
 use Rattle.map_core.specs.declared.entry.Entry.{Entry}
 use Rattle.map_core.specs.declared.layout.Layout.{Layout}
 use Rattle.map_core.specs.declared.view.View.{View}
-use Rattle.map_core.specs.History.{value_in, is_in, by_any, StartsWith, StartsWithOwn}
-use Rattle.map_core.specs.Places.{lowest, IsCell}
-use Rattle.map_core.specs.Machine.{IsWord, Keeps, State, IsUnset}
-use Rattle.map_core.specs.Passes.{look, cell, all_numbers, placed, total, WhoBelow, AllBy, Distinct, PassAt, HasFirst, FrontsOfOneHistory, CountIsHonest, HasClaim, OpenClaims, Together, Turn}
-use Rattle.map_core.proofs.HistoryLemmas.{by_hit, by_miss, by_append, test_cases}
+use Rattle.map_core.specs.History.{is_in, by_any, StartsWithOwn}
+use Rattle.map_core.specs.Machine.{Keeps, State, IsUnset}
+use Rattle.map_core.specs.Passes.{look, cell, all_numbers, placed, total, WhoBelow, AllBy, PassAt, HasFirst, SeesAll, FrontsOfOneHistory, CountIsHonest, HasClaim, OpenClaims, Together, Turn}
+use Rattle.map_core.proofs.HistoryLemmas.{by_miss, by_append, test_cases}
 
 pub keeps_trans : (C D E : ℕ → ℕ) → Keeps C D → Keeps D E → Keeps C E
 keeps_trans C D E p q x h = let e = p x h in q x (subst (λ (y : ℕ). 0 < y) (sym e) h) ∙ e
@@ -193,6 +191,7 @@ module _ (l : Layout) (mark : List ℕ) (s t : State) (views : List View) (i : �
               live = f.live;
               made = ap (λ (x : ℕ). x + f.view.spare) long ∙ f.made;
             } in r);
+        whole = let r : SeesAll l mark t (set views i w) = record { who = i; view = w; at = set_here views i w low; live = turn.live.1; front = inl turn.whole } in r;
       }
 
   count_turn : CountIsHonest l mark t (set views i w)

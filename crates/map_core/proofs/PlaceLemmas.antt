@@ -1,8 +1,8 @@
 -- Places tell cells apart, and the walk of a key passes each cell once.
-use Rattle.std.proofs.Common.{◌≡◌, ◌≢◌, ℕ, ◌+◌, ◌-◌, ◌*◌, ◌/◌, ◌%◌, ◌^◌, ◌<◌, ◌≤◌, refl, sym, ap, subst, ◌∙◌, arith, pow_pos, mod-lt}
+use Rattle.std.proofs.Common.{◌≡◌, ◌≢◌, ℕ, ◌+◌, ◌-◌, ◌*◌, ◌/◌, ◌^◌, ◌<◌, ◌≤◌, sym, ap, ◌∙◌, arith, mod-lt}
 use Rattle.map_core.specs.declared.layout.Layout.{Layout}
 use Rattle.map_core.specs.Sizes.{cells_of}
-use Rattle.map_core.specs.Places.{lowest, base, key_place, value_place, finish_place, offset, word_count, home, spot, Within, IsCell}
+use Rattle.map_core.specs.Places.{lowest, base, key_place, value_place, finish_place, home, spot, Within, IsCell}
 use Rattle.map_core.proofs.SizeLemmas.{cells_pos}
 
 -- for now a table has its last generation alone

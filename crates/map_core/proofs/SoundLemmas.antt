@@ -1,17 +1,17 @@
 -- A table after any lawful events keeps all the facts.
-use Rattle.std.proofs.Common.{◌≡◌, ◌≢◌, ◌⊎◌, ℕ, ◌+◌, ◌*◌, ◌/◌, ◌<◌, ◌≤◌, List, [], ◌∷◌, ◌++◌, Option, Some, None, refl, sym, ap, subst, ◌∙◌, inl, inr, ⊎_elim, arith}
+use Rattle.std.proofs.Common.{◌≡◌, ℕ, ◌*◌, ◌/◌, ◌<◌, List, [], ◌∷◌, ◌++◌, Some, None, refl, sym, subst, ◌∙◌, ⊎_elim, arith}
 use mathlib.Core.Logic.{dite}
 use native.Mathlib.Decide.{ℕ_discrete}
 use Rattle.map_core.specs.declared.entry.Entry.{Entry}
 use Rattle.map_core.specs.declared.layout.Layout.{Layout}
 use Rattle.map_core.specs.Sizes.{cells_of}
-use Rattle.map_core.specs.History.{value_in, IsLegalHistory}
-use Rattle.map_core.specs.Places.{lowest, key_place, value_place, finish_place, spot, Within, IsCell}
-use Rattle.map_core.specs.Machine.{greatest, IsWord, Keeps, Only, Passed, Reaches, IsPublished, IsDone, IsMoved, OneCellPerKey, ClosedBelow, MovedBelow, FinishedBlocks, OneHistory, State, Sound}
-use Rattle.map_core.specs.Events.{Event, claims, publishes, seals_key, seals_value, counts, takes, finishes, switches, entry, Writes, Rests, Adds, IsStep, IsStart, Lawful, at_start, and_then}
-use Rattle.map_core.proofs.SizeLemmas.{cells_pos, blocks_pos}
-use Rattle.map_core.proofs.PlaceLemmas.{one_generation, last_within, lowest_within, key_key, value_value, key_value, value_key, key_finish, value_finish}
-use Rattle.map_core.proofs.WordLemmas.{keeps_at, keeps_word, keeps_value, done_on, reaches_on, published_on, one_cell}
+use Rattle.map_core.specs.History.{value_in}
+use Rattle.map_core.specs.Places.{key_place, value_place, finish_place, Within, IsCell}
+use Rattle.map_core.specs.Machine.{greatest, IsWord, Keeps, Only, Reaches, IsPublished, IsMoved, OneCellPerKey, ClosedBelow, MovedBelow, FinishedBlocks, OneHistory, State, Sound}
+use Rattle.map_core.specs.Events.{Event, claims, publishes, seals_key, seals_value, counts, takes, finishes, switches, entry, Writes, Rests, IsStep, IsStart, Lawful, at_start, and_then}
+use Rattle.map_core.proofs.SizeLemmas.{blocks_pos}
+use Rattle.map_core.proofs.PlaceLemmas.{one_generation, last_within, lowest_within, key_finish, value_finish}
+use Rattle.map_core.proofs.WordLemmas.{keeps_at, keeps_value, done_on, published_on}
 use Rattle.map_core.proofs.EventLemmas.{SameCells, cells_stay, history_stays, key_cells, key_history, value_cells, value_history, value_new_history}
 
 -- in a table of one generation nothing lies below another, and no pair is published above the last

@@ -1,16 +1,15 @@
 -- A table at the start.
-use Rattle.std.proofs.Common.{◌≡◌, ◌≢◌, ℕ, zero, suc, ◌+◌, ◌-◌, ◌<◌, ◌≤◌, true, false, List, [], ◌∷◌, length, Some, None, refl, sym, ap, subst, ◌∙◌, arith, true≢false}
+use Rattle.std.proofs.Common.{◌≡◌, ℕ, zero, suc, ◌-◌, ◌<◌, ◌≤◌, true, List, [], ◌∷◌, length, refl, sym, ap, subst, ◌∙◌, inl, arith, true≢false}
 use mathlib.Core.Logic.{dite}
 use mathlib.Core.Option.{some, some-injective, some-ne-none}
 use native.Mathlib.Decide.{ℕ_discrete}
 use lib.ListN.{get_elem?}
 use Rattle.map_core.specs.declared.layout.Layout.{Layout}
 use Rattle.map_core.specs.declared.view.View.{View}
-use Rattle.map_core.specs.Places.{lowest, IsCell, key_place, Within}
+use Rattle.map_core.specs.Places.{lowest, key_place, Within}
 use Rattle.map_core.specs.Machine.{State}
-use Rattle.map_core.specs.Events.{IsStart}
 use Rattle.map_core.specs.History.{is_in}
-use Rattle.map_core.specs.Passes.{all_numbers, PassAt, HasFirst, FrontsOfOneHistory, CountIsHonest, OpenClaims, Together, Told}
+use Rattle.map_core.specs.Passes.{all_numbers, PassAt, HasFirst, SeesAll, FrontsOfOneHistory, CountIsHonest, OpenClaims, Together, Told}
 use Rattle.map_core.specs.Knowing.{first_view}
 use Rattle.map_core.proofs.SizeLemmas.{cells_pos}
 use Rattle.map_core.proofs.PlaceLemmas.{lowest_within}
@@ -62,6 +61,7 @@ module _ (l : Layout) (mark : List ℕ) (s : State) (cells : (q : ℕ) → s.cel
             live = refl;
             made = let p = l.passes_fit.0 in omega arith;
           } in r;
+          whole = let r : SeesAll l mark s (first_view l mark ∷ []) = record { who = 0; view = first_view l mark; at = refl; live = refl; front = inl (sym log) } in r;
         };
         count = record { counted = sym count; placed = sym (ap (λ es. length es) log) };
         claims = record { claimed = λ g i a unset. let z = cells (key_place l g i) in let p = unset.0.0 in absurd (omega arith) };

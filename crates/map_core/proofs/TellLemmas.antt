@@ -1,24 +1,22 @@
 -- What a pass knows by itself after a step, after a split and before a join.
-use Rattle.std.proofs.Common.{◌≡◌, ◌≢◌, ◌⊎◌, ℕ, zero, suc, ◌+◌, ◌-◌, ◌*◌, ◌<◌, ◌≤◌, Bool, true, false, List, [], ◌∷◌, ◌++◌, length, set, Option, Some, None, ◌||◌, ◌==◌, if◌then◌else◌, refl, sym, ap, subst, ◌∙◌, inl, inr, ⊎_elim, arith, append_assoc, append-nil, eq-eqb, ne_eqb, length-append, length-set, true≢false}
+use Rattle.std.proofs.Common.{◌≡◌, ◌≢◌, ◌⊎◌, ℕ, zero, suc, ◌+◌, ◌-◌, ◌<◌, ◌≤◌, true, List, [], ◌∷◌, ◌++◌, length, set, Some, None, refl, sym, ap, subst, ◌∙◌, inl, inr, ⊎_elim, arith, append-nil, length-append, length-set, true≢false}
 use mathlib.Core.Logic.{dite}
 use mathlib.Core.Option.{some, some-injective, some-ne-none}
 use native.Mathlib.Decide.{ℕ_discrete}
 use lib.ListN.{get_elem?}
-use Rattle.atomic_table.proofs.Lists.{at_set, set_here, set_else, at_longer, at_last}
-use Rattle.map_core.specs.declared.cell.Cell.{Cell}
+use Rattle.atomic_table.proofs.Lists.{at_set, set_here, set_else, at_longer}
 use Rattle.map_core.specs.declared.entry.Entry.{Entry}
 use Rattle.map_core.specs.declared.layout.Layout.{Layout}
 use Rattle.map_core.specs.declared.view.View.{View}
 use Rattle.map_core.specs.Sizes.{cells_of}
-use Rattle.map_core.specs.History.{value_in, IsLegalHistory, is_in, by_any, StartsWith, StartsWithOwn}
-use Rattle.map_core.specs.Places.{lowest, word_count, key_place, value_place, cells_in, spot, Within, IsCell}
-use Rattle.map_core.specs.Machine.{IsWord, Keeps, State, Passed, IsClosed, IsUnset, Sound}
-use Rattle.map_core.specs.Passes.{look, cell, all_numbers, placed, AtRest, total, WhoBelow, AllBy, Distinct, PassAt, HasFirst, FrontsOfOneHistory, CountIsHonest, HasClaim, OpenClaims, Together, Told}
-use Rattle.map_core.specs.Knowing.{first_view, halved, newcomer, put_together, settles}
-use Rattle.map_core.proofs.PlaceLemmas.{lowest_within}
+use Rattle.map_core.specs.History.{value_in, IsLegalHistory, is_in, by_any}
+use Rattle.map_core.specs.Places.{word_count, key_place, value_place, Within, IsCell}
+use Rattle.map_core.specs.Machine.{IsWord, Keeps, State, Passed, IsClosed, Sound}
+use Rattle.map_core.specs.Passes.{look, all_numbers, placed, total, WhoBelow, Distinct, PassAt, HasFirst, SeesAll, FrontsOfOneHistory, CountIsHonest, HasClaim, OpenClaims, Together, Told}
+use Rattle.map_core.specs.Knowing.{halved, newcomer}
 use Rattle.map_core.proofs.WordLemmas.{passed_on}
-use Rattle.map_core.proofs.HistoryLemmas.{by_hit, by_miss, by_append, test_cases, legal_before}
-use Rattle.map_core.proofs.PassLemmas.{there_below, in_append, in_first, in_second, not_in_parts, or_false, who_append, who_more, who_first, own_whole, total_set, Apart, apart_back}
+use Rattle.map_core.proofs.HistoryLemmas.{by_miss, by_append}
+use Rattle.map_core.proofs.PassLemmas.{there_below, in_first, who_more, total_set, Apart, apart_back}
 use Rattle.map_core.proofs.CountLemmas.{in_hit, in_miss, absent_whole, full, few_below, all_below, by_all}
 
 -- what is true of a pass by itself, where its front is the whole history
@@ -311,6 +309,19 @@ module _ (l : Layout) (mark : List ℕ) (s : State) (views : List View) (i : ℕ
                   let made' : m + d ≡ l.passes = made in
                   let goal : a + (c - 1) ≡ l.passes = omega arith in goal;
             } in r;
+        whole =
+            let c = old.fronts.whole in
+            let r : SeesAll l mark s (cut ++ newcomer v ∷ []) = dite (ℕ_discrete c.who i)
+            (λ e.
+            let same : v ≡ c.view = some-injective v c.view (sym at ∙ subst (λ (k : ℕ). get_elem? views k ≡ some c.view) e c.at) in
+            record {
+              who = i;
+              view = halved v;
+              at = at_longer cut (newcomer v ∷ []) i (halved v) (set_here views i (halved v) (there_below views i v at));
+              live = live;
+              front = subst (λ (x : View). (x.front ≡ s.history) ⊎ (x.beside ≡ s.history)) (sym same) c.front;
+            })
+            (λ ne. record { who = c.who; view = c.view; at = at_longer cut (newcomer v ∷ []) c.who c.view (set_else views i c.who (halved v) ne ∙ c.at); live = c.live; front = c.front }) in r;
       }
 
   split_count : CountIsHonest l mark s (cut ++ newcomer v ∷ [])

@@ -1,21 +1,21 @@
 -- Each step of a pass is a turn.
-use Rattle.std.proofs.Common.{◌≡◌, ◌≢◌, ◌⊎◌, ℕ, zero, suc, ◌+◌, ◌-◌, ◌*◌, ◌<◌, ◌≤◌, Bool, true, false, List, [], ◌∷◌, ◌++◌, length, Option, Some, None, ◌||◌, ◌&&◌, ◌==◌, if◌then◌else◌, refl, sym, ap, subst, ◌∙◌, inl, inr, ⊎_elim, arith, append_assoc, append-nil, eq-eqb, ne_eqb, length-append, true≢false}
+use Rattle.std.proofs.Common.{◌≡◌, ◌≢◌, ◌⊎◌, ℕ, ◌+◌, ◌<◌, ◌≤◌, Bool, true, false, List, [], ◌∷◌, ◌++◌, length, Option, Some, None, ◌&&◌, ◌==◌, if◌then◌else◌, refl, sym, ap, subst, ◌∙◌, inl, inr, ⊎_elim, arith, append-nil, eq-eqb, ne_eqb, length-append}
 use mathlib.Core.Logic.{dite}
 use native.Mathlib.Decide.{ℕ_discrete}
 use Rattle.map_core.specs.declared.cell.Cell.{Cell}
 use Rattle.map_core.specs.declared.entry.Entry.{Entry}
 use Rattle.map_core.specs.declared.layout.Layout.{Layout}
 use Rattle.map_core.specs.declared.view.View.{View}
-use Rattle.map_core.specs.History.{value_in, is_in, by_any, StartsWith, StartsWithOwn}
-use Rattle.map_core.specs.Places.{lowest, key_place, value_place, IsCell}
-use Rattle.map_core.specs.Machine.{IsWord, Keeps, Only, State, IsUnset}
+use Rattle.map_core.specs.History.{is_in, by_any, StartsWithOwn}
+use Rattle.map_core.specs.Places.{key_place, value_place, IsCell}
+use Rattle.map_core.specs.Machine.{IsWord, Keeps, State, IsUnset}
 use Rattle.map_core.specs.Events.{entry, Writes}
 use Rattle.map_core.specs.Passes.{look, cell, drop_claim, all_numbers, placed, AllBy, PassAt, Turn}
 use Rattle.map_core.specs.Knowing.{rest_of, sees, reads, grabs, places, counts_seen, tallies, settles}
 use Rattle.map_core.proofs.PlaceLemmas.{key_key, value_value, key_value, value_key}
 use Rattle.map_core.proofs.WordLemmas.{keeps_at}
-use Rattle.map_core.proofs.HistoryLemmas.{by_hit, by_append, test_cases}
-use Rattle.map_core.proofs.PassLemmas.{keeps_trans, own_whole, own_grows, in_first, there_below}
+use Rattle.map_core.proofs.HistoryLemmas.{by_hit, by_append}
+use Rattle.map_core.proofs.PassLemmas.{keeps_trans, own_whole, own_grows, in_first}
 
 pub look_hit : (known : List (ℕ × ℕ)) (q n x : ℕ) → q ≡ x → look ((q, n) ∷ known) x ≡ n
 look_hit known q n x is = subst (λ (b : Bool). (if b then n else look known x) ≡ n) (sym (eq-eqb q x is)) refl
@@ -102,6 +102,7 @@ module _ (l : Layout) (mark : List ℕ) (s : State) (i : ℕ) (v : View) (live :
           numbers = λ k. same.3 k ++ same.5 k;
           spare = same.6;
           at = stays_at;
+          whole = front;
           counted = ap (λ (x : ℕ). x + s.count) sums.0;
           placed = λ k. (sums.0 k + length (sums.1 k)) + length s.history;
           claims = λ g j a unset. ⊎_elim
@@ -166,6 +167,7 @@ module _ (l : Layout) (mark : List ℕ) (s : State) (i : ℕ) (v : View) (live :
         numbers = refl;
         spare = refl;
         at = back;
+        whole = refl;
         counted = ap (λ (x : ℕ). v.counted + x) (sym wr.count);
         placed = ap (λ (x : List Entry). placed v + length x) (sym log);
         claims = λ h m b unset. dite (ℕ_discrete (key_place l h m) (key_place l g j))
@@ -230,6 +232,7 @@ module _ (l : Layout) (mark : List ℕ) (s : State) (i : ℕ) (v : View) (live :
         numbers = refl;
         spare = refl;
         at = back;
+        whole = refl;
         counted = ap (λ (c : ℕ). v.counted + c) (sym wr.count);
         placed = let sum : (z + y) + m ≡ (z + n) + m' = omega arith in sum;
         claims = λ h o b unset.
@@ -280,6 +283,7 @@ module _ (l : Layout) (mark : List ℕ) (s : State) (i : ℕ) (v : View) (live :
         numbers = refl;
         spare = refl;
         at = back;
+        whole = refl;
         counted = omega arith;
         placed = λ k. sum k + length (sym log k);
         claims = λ g j a unset. ⊎_elim
@@ -323,6 +327,7 @@ module _ (l : Layout) (mark : List ℕ) (s : State) (i : ℕ) (v : View) (live :
         numbers = numbers;
         spare = refl;
         at = back;
+        whole = refl;
         counted = refl;
         placed = refl;
         claims = λ g j a unset. ⊎_elim

@@ -1,12 +1,11 @@
 -- What stays while words that are 0 become others, and where a walk ends.
-use Rattle.std.proofs.Common.{◌≡◌, ◌≢◌, ◌⊎◌, ℕ, ◌+◌, ◌*◌, ◌/◌, ◌<◌, ◌≤◌, refl, sym, ap, subst, ◌∙◌, inl, inr, ⊎_elim, arith}
+use Rattle.std.proofs.Common.{◌≡◌, ◌≢◌, ◌⊎◌, ℕ, ◌<◌, sym, ap, subst, ◌∙◌, inl, inr, ⊎_elim, arith}
 use mathlib.Core.Logic.{dite}
 use native.Mathlib.Decide.{ℕ_discrete, dec_lt}
 use Rattle.map_core.specs.declared.layout.Layout.{Layout}
 use Rattle.map_core.specs.Sizes.{cells_of}
-use Rattle.map_core.specs.Places.{key_place, value_place, spot, Within, IsCell}
-use Rattle.map_core.specs.Machine.{greatest, IsWord, Keeps, Only, Passed, Reaches, IsClosed, IsPublished, IsDone, IsMoved, IsSettled, OneCellPerKey}
-use Rattle.map_core.proofs.PlaceLemmas.{spot_cell}
+use Rattle.map_core.specs.Places.{key_place, value_place, spot, IsCell}
+use Rattle.map_core.specs.Machine.{greatest, IsWord, Keeps, Only, Passed, Reaches, IsClosed, IsPublished, IsDone, OneCellPerKey}
 
 pub keeps_at : (p : ℕ) (C D : ℕ → ℕ) → C p ≡ 0 → Only p C D → Keeps C D
 keeps_at p C D zero_at only q some_there = dite (ℕ_discrete q p) (λ e. let z : C q ≡ 0 = ap C e ∙ zero_at in absurd (omega arith)) (λ ne. only q ne)

@@ -1,11 +1,11 @@
 -- What a call of the table answers, at one point of one history.
 -- A call takes a pass from v to w. It stands at a front C, which its answer fixes: w's front, or for an insert that
 -- placed its entry the beginning of w's front that ends with the last of w's own entries.
-use Rattle.std.specs.Prelude.{◌≡◌, ℕ, ◌≤◌, List, [], ◌∷◌, ◌++◌, length, Option, Some, None}
+use Rattle.std.specs.Prelude.{◌≡◌, ◌≢◌, ℕ, ◌≤◌, List, [], ◌∷◌, ◌++◌, length, Option, Some, None}
 use Rattle.map_core.specs.declared.entry.Entry.{Entry}
 use Rattle.map_core.specs.declared.view.View.{View}
 use Rattle.map_core.specs.PlainMap.{plain_get}
-use Rattle.map_core.specs.History.{plain_map, IsLegalHistory, by_any, StartsWith, StartsWithOwn}
+use Rattle.map_core.specs.History.{plain_map, value_in, IsLegalHistory, by_any, StartsWith, StartsWithOwn}
 use Rattle.map_core.specs.Events.{entry}
 
 -- the entries of the pass's front that it, or a pass joined into it, has made
@@ -99,8 +99,19 @@ placed_by who (places key value ∷ cs) = entry who key value ∷ placed_by who 
 placed_by who (meets key found ∷ cs) = placed_by who cs
 placed_by who (is_full key ∷ cs) = placed_by who cs
 
--- what calls in order come to: the points ascend from the first front to the last, and the pass's own entries are those it had, followed by one for each insert that placed
+-- each call with this key answers this value: a find finds it, an insert meets it, and no insert places another or finds no room
+abbrev pub AllMeet : ℕ → ℕ → List Call → Type 0
+AllMeet key value [] = Unit {0}
+AllMeet key value (finds k answer ∷ cs) = (k ≡ key → answer ≡ Some value) × AllMeet key value cs
+AllMeet key value (places k x ∷ cs) = (k ≢ key) × AllMeet key value cs
+AllMeet key value (meets k found ∷ cs) = (k ≡ key → found ≡ value) × AllMeet key value cs
+AllMeet key value (is_full k ∷ cs) = (k ≢ key) × AllMeet key value cs
+
+-- What calls in order come to: the points ascend from the first front to the last, and the pass's own entries are those it had, followed by one for each insert that placed.
+-- A key that the first front has is met by every call, with the same value, and the last front has it
 pub record HoldCallsOnce (capacity : ℕ) (fits : ℕ → ℕ → Type 0) (cs : List Call) (v w : View) (calls : CallsInOrder fits capacity cs v w) : Type 0 where
   pub ascend : Ascends v.front (points_of fits capacity cs v w calls) w.front
   pub own : own w ≡ own v ++ placed_by v.number cs
   pub same : SamePass v w
+  pub meet : (key value : ℕ) → value_in v.front key ≡ Some value → AllMeet key value cs
+  pub stays : (key value : ℕ) → value_in v.front key ≡ Some value → value_in w.front key ≡ Some value

@@ -1,13 +1,11 @@
 -- What a pass knows after each of its steps. The history is log as the step is made.
-use Rattle.std.specs.Prelude.{◌≡◌, ℕ, zero, suc, ◌+◌, ◌-◌, ◌*◌, ◌<◌, ◌≤◌, Bool, true, false, List, [], ◌∷◌, ◌++◌, length, Option, Some, None, if◌then◌else◌, ◌==◌}
+use Rattle.std.specs.Prelude.{ℕ, ◌+◌, ◌-◌, true, false, List, [], ◌∷◌, ◌++◌, Some, None, if◌then◌else◌, ◌==◌}
 use Rattle.std.proofs.Common.{lit≤, not-suc-le-zero}
 use Rattle.map_core.specs.Sizes.{cells_of, IsLastFor}
-use Rattle.map_core.specs.declared.cell.Cell.{Cell}
 use Rattle.map_core.specs.declared.entry.Entry.{Entry}
 use Rattle.map_core.specs.declared.layout.Layout.{Layout}
 use Rattle.map_core.specs.declared.view.View.{View}
 use Rattle.map_core.specs.Places.{lowest, key_place, value_place}
-use Rattle.map_core.specs.Events.{entry}
 use Rattle.map_core.specs.Passes.{cell, drop_claim, all_numbers}
 
 abbrev pub rest_of : List Entry → List Entry

@@ -1,7 +1,7 @@
 -- The words of a table at one moment, and the facts that hold of them at every moment.
 -- A key word is 0 (empty), the greatest number (sealed) or a key. A value word is 0 (unset), the greatest number (closed) or a value.
 -- C q is the word at place q.
-use Rattle.std.specs.Prelude.{◌≡◌, ◌≢◌, ◌⊎◌, ℕ, ◌+◌, ◌*◌, ◌/◌, ◌<◌, ◌≤◌, List, Some, slice_index}
+use Rattle.std.specs.Prelude.{◌≡◌, ◌≢◌, ◌⊎◌, ℕ, ◌+◌, ◌/◌, ◌<◌, ◌≤◌, List, Some, slice_index}
 use Rattle.map_core.specs.declared.entry.Entry.{Entry}
 use Rattle.map_core.specs.declared.layout.Layout.{Layout}
 use Rattle.map_core.specs.Sizes.{cells_of}

@@ -1,5 +1,5 @@
 -- What the passes of a table know, and the facts that tie it to the table's words and history.
-use Rattle.std.specs.Prelude.{◌≡◌, ◌≢◌, ◌⊎◌, ℕ, ◌+◌, ◌-◌, ◌*◌, ◌<◌, ◌≤◌, Bool, true, false, List, [], ◌∷◌, ◌++◌, length, Option, Some, None, if◌then◌else◌, ◌==◌, ◌&&◌, map}
+use Rattle.std.specs.Prelude.{◌≡◌, ◌≢◌, ◌⊎◌, ℕ, ◌+◌, ◌-◌, ◌<◌, ◌≤◌, true, false, List, [], ◌∷◌, ◌++◌, length, Option, Some, None, if◌then◌else◌, ◌==◌, ◌&&◌}
 use mathlib.Core.Option.{some}
 use lib.ListN.{get_elem?}
 use Rattle.map_core.specs.declared.cell.Cell.{Cell}
@@ -7,7 +7,7 @@ use Rattle.map_core.specs.declared.entry.Entry.{Entry}
 use Rattle.map_core.specs.declared.layout.Layout.{Layout}
 use Rattle.map_core.specs.declared.view.View.{View}
 use Rattle.map_core.specs.Sizes.{cells_of}
-use Rattle.map_core.specs.History.{value_in, IsLegalHistory, is_in, by_any, StartsWith, StartsWithOwn}
+use Rattle.map_core.specs.History.{value_in, IsLegalHistory, is_in, by_any, StartsWithOwn}
 use Rattle.map_core.specs.Places.{lowest, word_count, key_place, value_place, Within, IsCell}
 use Rattle.map_core.specs.Machine.{IsWord, Keeps, State, Passed, IsClosed, IsUnset}
 
@@ -79,7 +79,15 @@ module _ (l : Layout) (mark : List ℕ) (s : State) where
     pub live : view.live ≡ true
     pub made : length views + view.spare ≡ l.passes
 
-  -- The passes share one history: what each knows of it is so, their numbers are disjoint, and each entry is by one of them
+  -- a pass that has seen all of the history. Between the two steps of a join that may be in the front beside its own
+  pub record SeesAll (views : List View) : Type 0 where
+    pub who : ℕ
+    pub view : View
+    pub at : get_elem? views who ≡ some view
+    pub live : view.live ≡ true
+    pub front : (view.front ≡ s.history) ⊎ (view.beside ≡ s.history)
+
+  -- The passes share one history: what each knows of it is so, one of them has seen all of it, their numbers are disjoint, and each entry is by one of them
   pub record FrontsOfOneHistory (views : List View) : Type 0 where
     pub each : (i : ℕ) (v : View) → get_elem? views i ≡ some v → v.live ≡ true → PassAt i v
     pub spent : (i : ℕ) (v : View) → get_elem? views i ≡ some v → v.live ≡ false → (all_numbers v ≡ []) × (placed v ≡ 0) × (v.counted ≡ 0) × (v.claim ≡ None)
@@ -87,6 +95,7 @@ module _ (l : Layout) (mark : List ℕ) (s : State) where
     pub below : (i : ℕ) (v : View) → get_elem? views i ≡ some v → (n : ℕ) → is_in n (all_numbers v) ≡ true → n < length views
     pub who : WhoBelow (length views) s.history
     pub first : HasFirst views
+    pub whole : SeesAll views
 
   -- The count is the number of entries that their passes have counted, and the history has as many as were placed
   pub record CountIsHonest (views : List View) : Type 0 where
@@ -122,6 +131,7 @@ pub record Turn (l : Layout) (mark : List ℕ) (s t : State) (i : ℕ) (v w : Vi
   pub numbers : all_numbers w ≡ all_numbers v
   pub spare : w.spare ≡ v.spare
   pub at : PassAt l mark t i w
+  pub whole : w.front ≡ t.history
   pub counted : w.counted + s.count ≡ v.counted + t.count
   pub placed : placed w + length s.history ≡ placed v + length t.history
   pub claims : (g j : ℕ) → IsCell l g j → IsUnset l t.cells g j → (w.claim ≡ Some (cell g j)) ⊎ (IsUnset l s.cells g j × (v.claim ≢ Some (cell g j)))

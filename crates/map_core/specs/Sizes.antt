@@ -1,5 +1,5 @@
 -- How many cells a generation has, and which generation of a table is its last.
-use Rattle.std.specs.Prelude.{◌≡◌, ℕ, ◌+◌, ◌*◌, ◌^◌, ◌<◌, ◌≤◌}
+use Rattle.std.specs.Prelude.{ℕ, ◌+◌, ◌*◌, ◌^◌, ◌<◌, ◌≤◌}
 
 -- generation g has 64 * 2 ^ g cells
 unfoldable pub cells_of : ℕ → ℕ

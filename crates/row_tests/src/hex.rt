@@ -11,6 +11,17 @@ pub fn bytes_of(alloc: Global, text: &str) -> Result<Vec<u8>, AllocError> {
     Ok(bytes)
 }
 
+/// The bytes that `HEX` spells, or `N` times those where the text is `N*HEX`.
+pub fn repeated_bytes_of(alloc: Global, text: &str) -> Result<Vec<u8>, AllocError> {
+    let (times, hex) = text.split_once('*').unwrap_or(("1", text));
+    let piece = bytes_of(alloc, hex)?;
+    let mut bytes = Vec::new(alloc);
+    for _ in 0..times.parse::<u32>().unwrap_or(0) {
+        bytes.extend_from_slice(piece.as_slice())?;
+    }
+    Ok(bytes)
+}
+
 fn byte_of(pair: &[u8]) -> u8 {
     match pair {
         [high, low] => digit_of(*high).wrapping_mul(16) | digit_of(*low),

@@ -6,6 +6,8 @@ use std::alloc::{AllocError, Global};
 #[derive(Drop)]
 pub struct Row {
     pub file: Vec<u8>,
+    /// How long the file is made by zeros behind it, where that is longer than it is.
+    pub length: u64,
     pub failing_source: Vec<u64>,
     pub failing_out: Vec<u64>,
     pub failing_err: Vec<u64>,
@@ -16,6 +18,7 @@ impl Row {
     pub fn new(alloc: Global) -> Row {
         Row {
             file: Vec::new(alloc),
+            length: 0,
             failing_source: Vec::new(alloc),
             failing_out: Vec::new(alloc),
             failing_err: Vec::new(alloc),
@@ -48,8 +51,9 @@ impl Row {
         Ok(())
     }
 
-    /// No call fails any more.
+    /// No call fails any more, and the file is no longer than it is.
     pub fn forgive(&mut self) {
+        self.length = 0;
         self.failing_source.clear();
         self.failing_out.clear();
         self.failing_err.clear();

@@ -11,7 +11,7 @@ use Rattle.map_core.specs.Passes.{placed, AtRest, Told}
 use Rattle.map_core.specs.Knowing.{first_view}
 use Rattle.map_core.specs.Places.{lowest}
 use Rattle.map_core.proofs.HistoryLemmas.{value_stays}
-use Rattle.map_core.proofs.CallLemmas.{map_get, starts_same, starts_trans}
+use Rattle.map_core.proofs.CallLemmas.{map_get, starts_same, starts_trans, value_longer}
 use Rattle.map_cells.specs.Seen.{CellsView, PassView, IsOf}
 use Rattle.map_cells.specs.Steps.{Steps, Looks, CountSeen, CountRaised}
 use Rattle.map_cells.specs.Walks.{Walks}
@@ -110,7 +110,13 @@ module _ (fits : List ℕ → ℕ → ℕ → Type 0) where
       let c' : z ≡ o = c in
       let d' : o ≡ m + n = d in
       let sum : z ≡ x + y = omega arith in
-      record { first = own_stays v w.front j.mine; second = own_stays u w.front j.theirs; all = sum }
+      record {
+        first = own_stays v w.front j.mine;
+        second = own_stays u w.front j.theirs;
+        all = sum;
+        keeps = λ key x had. value_longer v.front w.front key x record { rest = j.mine.rest; joins = j.mine.joins } had;
+        keeps_theirs = λ key x had. value_longer u.front w.front key x record { rest = j.theirs.rest; joins = j.theirs.joins } had;
+      }
 
 lowest_last : (l : Layout) → lowest l ≡ l.last
 lowest_last l = one_generation l (lowest l) (lowest_within l)

@@ -1,8 +1,8 @@
 -- What the table's calls answer, by the definitions of a call at its point.
-use Rattle.std.specs.Prelude.{◌≡◌, ◌⊎◌, ℕ, ◌+◌, ◌-◌, ◌*◌, ◌<◌, ◌≤◌, List, [], ◌∷◌, length, Result, Ok, Err}
+use Rattle.std.specs.Prelude.{◌≡◌, ◌⊎◌, ℕ, ◌+◌, ◌-◌, ◌*◌, ◌<◌, ◌≤◌, List, [], ◌∷◌, length, Some, Result, Ok, Err}
 use Rattle.map_core.specs.declared.view.View.{View}
 use Rattle.map_core.specs.Sizes.{cells_of}
-use Rattle.map_core.specs.History.{by_any}
+use Rattle.map_core.specs.History.{by_any, value_in}
 use Rattle.map_core.specs.Calls.{own, PlacesAt, FoundAt, FullAt}
 use Rattle.map_core.specs.Passes.{AtRest}
 use Rattle.map_cells.specs.Seen.{CellsView, PassView, IsOf}
@@ -33,8 +33,10 @@ Inserts fits capacity key value v w (Ok Placed) = PlacesAt fits v w key value ×
 Inserts fits capacity key value v w (Ok (Found x)) = FoundAt fits v w key x
 Inserts fits capacity key value v w (Err e) = FullAt fits v w capacity key
 
--- the own entries of a joined pass are those of the two, and no others
+-- the own entries of a joined pass are those of the two, and no others; a key that either front had keeps its value
 pub record PutTogether (v u w : View) : Type 0 where
   pub first : by_any v.numbers w.front ≡ own v
   pub second : by_any u.numbers w.front ≡ own u
   pub all : length (own w) ≡ length (own v) + length (own u)
+  pub keeps : (key x : ℕ) → value_in v.front key ≡ Some x → value_in w.front key ≡ Some x
+  pub keeps_theirs : (key x : ℕ) → value_in u.front key ≡ Some x → value_in w.front key ≡ Some x

@@ -66,4 +66,4 @@ pub returns-clause-put : goal.returns-clause-put
 returns-clause-put g c =
     let whole : cells_of c.args.generation ≤ c.loop-steps.steps = subst (λ (n : ℕ). n ≤ c.loop-steps.steps) c.cells-cells.ensures c.loop-steps-test.false in
     let ends = walk_ends g.F.Facts.fits c.args.generation c.args.key c.loop-steps.steps c.loop-steps.index c.args.pass.now.knows c.loop-steps.pass.knows c.loop-steps.invariant.1 c.requires.key c.requires.current whole in
-    record { walks = c.loop-steps.invariant.1.walks; lacks = ends.0; full = ends.1 }
+    record { walks = c.loop-steps.invariant.1.walks; others = ends.2; lacks = ends.0; full = ends.1 }

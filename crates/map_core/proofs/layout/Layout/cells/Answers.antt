@@ -1,4 +1,4 @@
-use Rattle.std.proofs.Common.{◌≤◌, arith}
+use Rattle.std.proofs.Common.{arith}
 use Rattle.map_core.proofs.SizeLemmas.{last_small, cells_shifted}
 use Rattle.map_core.proofs.layout.Layout.cells.Goals as goal
 

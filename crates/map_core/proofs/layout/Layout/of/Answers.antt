@@ -1,4 +1,4 @@
-use Rattle.std.proofs.Common.{◌≡◌, ◌≤◌, ◌<◌, ◌+◌, ◌*◌, ℕ, arith, subst, below_more}
+use Rattle.std.proofs.Common.{◌≤◌, ◌<◌, ◌+◌, ◌*◌, ℕ, arith, subst, below_more}
 use Rattle.map_core.specs.Sizes.{cells_of}
 use Rattle.map_core.proofs.SizeLemmas.{cells_shifted, not_last}
 use Rattle.map_core.proofs.layout.Layout.of.Goals as goal

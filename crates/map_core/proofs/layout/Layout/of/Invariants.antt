@@ -1,4 +1,4 @@
-use Rattle.std.proofs.Common.{◌≡◌, ◌≤◌, ℕ, ◌+◌, ◌-◌, ◌*◌, ◌<◌}
+use Rattle.std.proofs.Common.{◌≤◌, ℕ, ◌-◌, ◌*◌, ◌<◌}
 use Rattle.map_core.specs.Sizes.{cells_of}
 use Rattle.map_core.proofs.layout.Layout.of.Given as goal
 

@@ -1,38 +1,33 @@
 -- Each step keeps the rule, and tells what its call ensures.
-use Rattle.std.proofs.Common.{◌≡◌, ◌≢◌, ◌⊎◌, ℕ, zero, suc, ◌+◌, ◌-◌, ◌*◌, ◌%◌, ◌^◌, ◌<◌, ◌≤◌, Bool, true, false, eqb, List, [], ◌∷◌, ◌++◌, length, set, slice_index, Option, Some, None, if◌then◌else◌, ◌==◌, refl, sym, ap, subst, ◌∙◌, inl, inr, ⊎_elim, arith, length-set, length-append, mod-eq_of_lt, append-nil, append_assoc, eq-eqb, ne_eqb, get_or-set_other, get_or-set_same}
+use Rattle.std.proofs.Common.{◌≡◌, ℕ, ◌+◌, ◌<◌, ◌≤◌, true, List, [], ◌∷◌, ◌++◌, length, set, slice_index, Some, if◌then◌else◌, ◌==◌, refl, sym, ap, subst, ◌∙◌, arith, append-nil}
 use Rattle.std.proofs.lemmas.List.{set-get_or}
-use mathlib.Core.Logic.{dite}
 use mathlib.Core.Option.{some, none}
-use native.Mathlib.Decide.{ℕ_discrete}
 use lib.ListN.{get_elem?}
-use prog.Atomic.{either}
 use Rattle.boxcar.specs.declared.tag.Tag.{Tag}
-use Rattle.atomic_table.proofs.Lists.{set_here, exchanged}
-use Rattle.atomic_table.specs.Table.{State, Me, Step, step, Act, keeps, Valid, stepped, Allows}
+use Rattle.atomic_table.proofs.Lists.{set_here}
+use Rattle.atomic_table.specs.Table.{State, step, keeps, Allows}
 use Rattle.map_core.specs.declared.entry.Entry.{Entry}
-use Rattle.map_core.specs.declared.layout.Layout.{Layout}
 use Rattle.map_core.specs.declared.view.View.{View}
-use Rattle.map_core.specs.History.{value_in, IsLegalHistory, is_in, by_any, StartsWith, StartsWithOwn}
+use Rattle.map_core.specs.History.{value_in, by_any, StartsWithOwn}
 use Rattle.map_core.specs.Places.{offset, word_count, key_place, value_place, cells_in, IsCell}
-use Rattle.map_core.specs.Machine.{greatest, IsWord, Keeps, state_of, Sound, Reaches, IsClosed, IsSettled}
-use Rattle.map_core.specs.Events.{Event, claims, publishes, counts, entry, Lawful, and_then, Writes, Adds, IsStep}
+use Rattle.map_core.specs.Machine.{greatest, IsWord, state_of, Sound}
+use Rattle.map_core.specs.Events.{Event, Lawful}
 use Rattle.map_core.specs.Calls.{own}
 use Rattle.map_core.specs.Passes.{look, cell, drop_claim, all_numbers, placed, PassAt, Together, Turn, Told}
-use Rattle.map_core.specs.Knowing.{rest_of, sees, reads, grabs, places, counts_seen, tallies, settles}
-use Rattle.map_core.proofs.PlaceLemmas.{one_generation, key_key, value_value}
+use Rattle.map_core.specs.Knowing.{sees, reads, counts_seen}
+use Rattle.map_core.proofs.PlaceLemmas.{value_value}
 use Rattle.map_core.proofs.WordLemmas.{reaches_on, keeps_value}
 use Rattle.map_core.proofs.HistoryLemmas.{by_append}
 use Rattle.map_core.proofs.SoundLemmas.{lawful_sound}
 use Rattle.map_core.proofs.PassLemmas.{turns, there_below}
-use Rattle.map_core.proofs.TurnLemmas.{look_hit, seen_more, sees_turn, counts_seen_turn, reads_turn, grabs_turn, places_turn, tallies_turn, settles_turn}
+use Rattle.map_core.proofs.TurnLemmas.{look_hit, seen_more, sees_turn, counts_seen_turn, reads_turn}
 use Rattle.map_core.proofs.CountLemmas.{log_small, total_le}
 use Rattle.map_core.proofs.TellLemmas.{tells}
 use Rattle.map_core.proofs.AbsentLemmas.{absent_at_empty, absent_unset}
 use Rattle.map_cells.specs.declared.about.About.{About}
-use Rattle.map_cells.specs.Steps.{ClosedTo, SettledTo, Steps, Looks, KeySeen, ValueSeen, CountSeen, KeyTried, IsNewest, IsPlaced, IsLost, ValueTried, CountRaised}
-use Rattle.map_cells.specs.Passing.{Settles}
-use Rattle.map_cells.specs.Rule.{Kept, KeyLooked, ValueLooked, CountLooked, Claimed, Published, Counted, Settled}
-use Rattle.map_cells.proofs.WordSteps.{words_small, key_within, value_within, same_place, writes_word, count_cells}
+use Rattle.map_cells.specs.Steps.{Looks}
+use Rattle.map_cells.specs.Rule.{Kept, KeyLooked, ValueLooked, CountLooked}
+use Rattle.map_cells.proofs.WordSteps.{same_place}
 
 -- a table of this pass's sizes
 abbrev pub about : View → Tag → About

@@ -1,10 +1,9 @@
 -- Facts that several calls want of a pass.
-use Rattle.std.proofs.Common.{◌≡◌, ◌⊎◌, ℕ, ◌+◌, ◌<◌, ◌≤◌, Bool, true, false, List, [], ◌∷◌, length, refl, sym, ap, subst, ◌∙◌, inl, inr, ⊎_elim, arith}
+use Rattle.std.proofs.Common.{◌≡◌, ℕ, ◌+◌, ◌<◌, ◌≤◌, true, false, List, [], ◌∷◌, length, sym, ap, subst, ◌∙◌, ⊎_elim, arith}
 use Rattle.map_core.specs.declared.entry.Entry.{Entry}
-use Rattle.map_core.specs.declared.layout.Layout.{Layout}
 use Rattle.map_core.specs.declared.view.View.{View}
 use Rattle.map_core.specs.History.{is_in, by_any}
-use Rattle.std.proofs.Common.{Some, None, length-append, append-nil, ◌++◌}
+use Rattle.std.proofs.Common.{length-append, ◌++◌}
 use Rattle.map_core.specs.Passes.{placed, AtRest, Told}
 use Rattle.map_core.specs.Knowing.{put_together, rest_of}
 use Rattle.map_cells.specs.Passing.{IsJoined, Settles}

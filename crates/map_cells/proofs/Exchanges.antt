@@ -1,25 +1,21 @@
 -- Exchanges, the addition to the count and the end of a join keep the rule, and tell what their calls ensure.
-use Rattle.std.proofs.Common.{◌≡◌, ◌≢◌, ◌⊎◌, ℕ, zero, suc, ◌+◌, ◌-◌, ◌*◌, ◌%◌, ◌^◌, ◌<◌, ◌≤◌, Bool, true, false, eqb, List, [], ◌∷◌, ◌++◌, length, set, slice_index, Option, Some, None, if◌then◌else◌, ◌==◌, refl, sym, ap, subst, ◌∙◌, inl, inr, ⊎_elim, arith, length-set, length-append, mod-eq_of_lt, append-nil, append_assoc, eq-eqb, ne_eqb, get_or-set_other, get_or-set_same}
-use Rattle.std.proofs.lemmas.List.{set-get_or}
-use mathlib.Core.Logic.{dite}
-use mathlib.Core.Option.{some, none}
-use native.Mathlib.Decide.{ℕ_discrete}
-use lib.ListN.{get_elem?}
+use Rattle.std.proofs.Common.{◌≡◌, ◌≢◌, ℕ, ◌+◌, ◌%◌, ◌^◌, ◌<◌, ◌≤◌, Bool, true, List, [], ◌∷◌, ◌++◌, length, set, slice_index, Some, None, if◌then◌else◌, ◌==◌, refl, sym, ap, subst, ◌∙◌, inl, inr, ⊎_elim, arith, length-set, mod-eq_of_lt, append_assoc, ne_eqb, get_or-set_other, get_or-set_same}
+use mathlib.Core.Option.{none}
 use prog.Atomic.{either}
 use Rattle.boxcar.specs.declared.tag.Tag.{Tag}
 use Rattle.atomic_table.proofs.Lists.{set_here, exchanged}
-use Rattle.atomic_table.specs.Table.{State, Me, Step, step, Act, keeps, Valid, stepped, carried_after, Allows}
+use Rattle.atomic_table.specs.Table.{State, Me, step, Act, keeps, Valid, stepped, carried_after, Allows}
 use Rattle.map_core.specs.declared.entry.Entry.{Entry}
 use Rattle.map_core.specs.declared.layout.Layout.{Layout}
 use Rattle.map_core.specs.declared.view.View.{View}
 use Rattle.map_core.specs.Sizes.{cells_of}
-use Rattle.map_core.specs.History.{value_in, IsLegalHistory, is_in, by_any, StartsWith, StartsWithOwn}
+use Rattle.map_core.specs.History.{value_in, by_any}
 use Rattle.map_core.specs.Places.{lowest, offset, word_count, key_place, value_place, cells_in, IsCell}
-use Rattle.map_core.specs.Machine.{greatest, IsWord, Keeps, state_of, Sound, Reaches, IsClosed, IsPublished, IsSettled}
-use Rattle.map_core.specs.Events.{Event, claims, publishes, counts, entry, Lawful, and_then, Writes, Rests, Adds, IsStep}
+use Rattle.map_core.specs.Machine.{greatest, IsWord, Keeps, state_of, Reaches, IsClosed, IsPublished, IsSettled}
+use Rattle.map_core.specs.Events.{claims, publishes, counts, entry, and_then, Writes, IsStep}
 use Rattle.map_core.specs.Calls.{own}
-use Rattle.map_core.specs.Passes.{look, cell, drop_claim, all_numbers, placed, total, PassAt, Together, Turn, Told}
-use Rattle.map_core.specs.Knowing.{rest_of, sees, reads, grabs, places, counts_seen, tallies, settles}
+use Rattle.map_core.specs.Passes.{look, drop_claim, total, Told}
+use Rattle.map_core.specs.Knowing.{rest_of, sees, reads, grabs, places, tallies, settles}
 use Rattle.map_core.proofs.PlaceLemmas.{key_key, value_value}
 use Rattle.map_core.proofs.WordLemmas.{keeps_at, reaches_on, keeps_value, closed_on, published_on}
 use Rattle.map_core.proofs.HistoryLemmas.{by_append, by_hit}
@@ -27,9 +23,7 @@ use Rattle.map_core.proofs.PassLemmas.{keeps_trans, there_below, turns}
 use Rattle.map_core.proofs.TurnLemmas.{look_hit, seen_more, sees_turn, reads_turn, grabs_turn, places_turn, tallies_turn, settles_turn}
 use Rattle.map_core.proofs.CountLemmas.{log_small, total_le, count_le}
 use Rattle.map_core.proofs.AbsentLemmas.{absent_unset}
-use Rattle.map_cells.specs.declared.about.About.{About}
-use Rattle.map_cells.specs.Steps.{ClosedTo, SettledTo, MayPublish, Steps, Looks, KeyTried, IsNewest, IsPlaced, IsLost, ValueTried, CountRaised}
-use Rattle.map_cells.specs.Passing.{Settles}
+use Rattle.map_cells.specs.Steps.{ClosedTo, SettledTo, MayPublish, KeyTried, ValueTried}
 use Rattle.map_cells.specs.Rule.{Kept, Claimed, Published, Counted, Settled}
 use Rattle.map_cells.proofs.WordSteps.{words_small, words_pos, key_within, value_within, same_place, writes_word, count_cells}
 use Rattle.map_cells.proofs.Allowed.{about, own_stays, sound_now, pass_now, keep_turn, tell_turn, keep_load, tell_load, saw}

@@ -1,17 +1,15 @@
 -- A table at the start meets the rule, and so does it after a split and after the first step of a join.
-use Rattle.std.proofs.Common.{◌≡◌, ◌≢◌, ◌⊎◌, ℕ, zero, suc, ◌+◌, ◌-◌, ◌*◌, ◌<◌, ◌≤◌, Bool, true, false, List, [], ◌∷◌, ◌++◌, length, set, slice_index, replicate, Some, None, refl, sym, ap, subst, ◌∙◌, inl, inr, ⊎_elim, arith}
-use mathlib.Core.Option.{some, none}
-use lib.ListN.{get_elem?}
+use Rattle.std.proofs.Common.{◌≡◌, ◌≢◌, ℕ, zero, suc, ◌+◌, ◌<◌, List, [], length, slice_index, replicate, None, refl, sym, ap, ◌∙◌, arith}
 use Rattle.boxcar.specs.declared.tag.Tag.{Tag}
-use Rattle.atomic_table.proofs.Lists.{set_here, set_else}
-use Rattle.atomic_table.specs.Table.{State, Splits, Joins, opening}
+use Rattle.atomic_table.proofs.Lists.{set_else}
+use Rattle.atomic_table.specs.Table.{Splits, Joins, opening}
 use Rattle.map_core.specs.declared.layout.Layout.{Layout}
 use Rattle.map_core.specs.declared.view.View.{View}
-use Rattle.map_core.specs.Places.{lowest, offset, word_count, cells_in}
+use Rattle.map_core.specs.Places.{lowest, offset, word_count}
 use Rattle.map_core.specs.Machine.{state_of}
-use Rattle.map_core.specs.Events.{Lawful, at_start, IsStart}
-use Rattle.map_core.specs.Passes.{AtRest, Together, Told}
-use Rattle.map_core.specs.Knowing.{first_view, halved, newcomer, put_together, gone}
+use Rattle.map_core.specs.Events.{at_start}
+use Rattle.map_core.specs.Passes.{Told}
+use Rattle.map_core.specs.Knowing.{halved, newcomer, put_together, gone}
 use Rattle.map_core.proofs.TellLemmas.{split_keeps}
 use Rattle.map_core.proofs.JoinLemmas.{join_keeps}
 use Rattle.map_core.proofs.StartLemmas.{start_together}

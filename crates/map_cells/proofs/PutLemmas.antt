@@ -1,20 +1,17 @@
 -- What one cell makes of a pair.
-use Rattle.std.proofs.Common.{◌≡◌, ◌≢◌, ◌⊎◌, ℕ, ◌+◌, ◌<◌, ◌≤◌, Bool, true, false, List, [], ◌∷◌, ◌++◌, length, Option, Some, None, refl, sym, ap, subst, ◌∙◌, inl, inr, ⊎_elim, arith}
-use Rattle.map_core.specs.declared.cell.Cell.{Cell}
+use Rattle.std.proofs.Common.{◌≡◌, ◌≢◌, ℕ, ◌<◌, List, [], ◌∷◌, ◌++◌, None, refl, sym, ap, subst, ◌∙◌, inl, inr, arith}
 use Rattle.map_core.specs.declared.entry.Entry.{Entry}
 use Rattle.map_core.specs.declared.layout.Layout.{Layout}
 use Rattle.map_core.specs.declared.view.View.{View}
-use Rattle.map_core.specs.History.{value_in}
 use Rattle.map_core.specs.Places.{key_place, value_place, IsCell}
 use Rattle.map_core.specs.Machine.{IsWord, IsPublished}
 use Rattle.map_core.specs.Events.{entry}
-use Rattle.map_core.specs.Calls.{own}
-use Rattle.map_core.specs.Passes.{look, cell, drop_claim, Told}
+use Rattle.map_core.specs.Passes.{look}
 use Rattle.map_core.proofs.CallLemmas.{starts_trans}
 use Rattle.map_core.proofs.TurnLemmas.{drop_own}
-use Rattle.map_cells.specs.Steps.{Steps, Looks, KeySeen, KeyTried, ValueTried, IsNewest}
+use Rattle.map_cells.specs.Steps.{Steps, KeySeen, KeyTried, ValueTried, IsNewest}
 use Rattle.map_cells.specs.Walks.{Walks, Takes}
-use Rattle.map_cells.specs.Puts.{HoldsOther, IsSeenFrom, PutsNew, PutsFound, PutsNone, PutsOther}
+use Rattle.map_cells.specs.Puts.{IsSeenFrom, PutsNew, PutsFound, PutsOther}
 use Rattle.map_cells.proofs.WalkLemmas.{steps_then, looks_then, walks_then}
 
 module _ (fits : List ℕ → ℕ → ℕ → Type 0) where

@@ -3,7 +3,7 @@ use Rattle.std.proofs.Common.{◌≡◌, ◌≢◌, ◌⊎◌, ℕ, zero, suc, �
 use Rattle.std.proofs.lemmas.Nat.{pow-add}
 use Rattle.std.proofs.Math.Nat.{mod-add-mod}
 use mathlib.Core.Logic.{dite}
-use native.Mathlib.Decide.{ℕ_discrete, dec_lt}
+use native.Mathlib.Decide.{ℕ_discrete}
 use Rattle.map_core.specs.declared.cell.Cell.{Cell}
 use Rattle.map_core.specs.declared.entry.Entry.{Entry}
 use Rattle.map_core.specs.declared.layout.Layout.{Layout}
@@ -12,15 +12,14 @@ use Rattle.map_core.specs.Sizes.{cells_of}
 use Rattle.map_core.specs.History.{is_in, by_any, StartsWith, StartsWithOwn}
 use Rattle.map_core.specs.Places.{key_place, home, spot, Within, IsCell}
 use Rattle.map_core.specs.Machine.{IsWord, Passed, Reaches}
-use Rattle.map_core.specs.Calls.{own}
-use Rattle.map_core.specs.Passes.{look, cell, drop_claim, Told}
+use Rattle.map_core.specs.Passes.{look, drop_claim, Told}
 use Rattle.map_core.proofs.PlaceLemmas.{one_generation, spot_cell}
 use Rattle.map_core.proofs.WordLemmas.{passed_on, reaches_on}
 use Rattle.map_core.proofs.HistoryLemmas.{by_append}
 use Rattle.map_core.proofs.CallLemmas.{starts_same, starts_trans}
 use Rattle.map_core.proofs.SizeLemmas.{cells_pos}
 use Rattle.map_cells.specs.Steps.{ClosedTo, SettledTo, Steps, Looks, KeySeen, ValueSeen}
-use Rattle.map_cells.specs.Walks.{Walks, Takes}
+use Rattle.map_cells.specs.Walks.{Walks}
 
 pub steps_then : (v u w : View) → Steps v u → Steps u w → Steps v w
 steps_then v u w a b =

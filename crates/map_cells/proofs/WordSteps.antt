@@ -1,10 +1,10 @@
 -- The words of a table as a list: what one write changes, and how many there are.
-use Rattle.std.proofs.Common.{◌≡◌, ◌≢◌, ℕ, ◌+◌, ◌-◌, ◌*◌, ◌^◌, ◌<◌, ◌≤◌, List, length, set, slice_index, replicate, refl, sym, ap, subst, ◌∙◌, arith, get_or-set_other, get_or-set_same, length-set}
+use Rattle.std.proofs.Common.{◌≡◌, ◌≢◌, ℕ, ◌+◌, ◌-◌, ◌*◌, ◌^◌, ◌<◌, ◌≤◌, List, length, set, slice_index, refl, sym, ap, arith, get_or-set_other, get_or-set_same}
 use Rattle.map_core.specs.declared.entry.Entry.{Entry}
 use Rattle.map_core.specs.declared.layout.Layout.{Layout}
 use Rattle.map_core.specs.Sizes.{cells_of}
 use Rattle.map_core.specs.Places.{lowest, base, offset, word_count, key_place, value_place, cells_in, Within, IsCell}
-use Rattle.map_core.specs.Machine.{State, state_of}
+use Rattle.map_core.specs.Machine.{state_of}
 use Rattle.map_core.specs.Events.{Writes}
 use Rattle.map_core.proofs.SizeLemmas.{last_small, cells_small}
 use Rattle.map_core.proofs.PlaceLemmas.{one_generation, place_within, last_base}

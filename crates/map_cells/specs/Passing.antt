@@ -1,9 +1,9 @@
 -- What a split and a join leave of the passes.
 use Rattle.std.specs.Prelude.{◌≡◌, ℕ, ◌+◌, List, ◌++◌, length}
 use Rattle.map_core.specs.declared.view.View.{View}
-use Rattle.map_core.specs.History.{by_any, StartsWithOwn}
+use Rattle.map_core.specs.History.{StartsWithOwn}
 use Rattle.map_core.specs.Calls.{own}
-use Rattle.map_core.specs.Passes.{look, placed, AtRest, Told}
+use Rattle.map_core.specs.Passes.{placed, AtRest, Told}
 use Rattle.map_core.specs.Knowing.{halved, newcomer}
 
 module _ (fits : List ℕ → ℕ → ℕ → Type 0) where

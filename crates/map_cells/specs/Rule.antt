@@ -1,11 +1,10 @@
 -- The rule of a table's words, and what each atomic step tells of it.
-use Rattle.std.specs.Prelude.{◌≡◌, ◌≢◌, ℕ, ◌+◌, ◌<◌, ◌≤◌, List, length}
+use Rattle.std.specs.Prelude.{◌≡◌, ℕ, ◌+◌, List, length}
 use Rattle.atomic_table.specs.Table.{State, Me, Step}
 use Rattle.map_core.specs.declared.entry.Entry.{Entry}
-use Rattle.map_core.specs.declared.layout.Layout.{Layout}
 use Rattle.map_core.specs.declared.view.View.{View}
 use Rattle.map_core.specs.Places.{offset, word_count, key_place, value_place, IsCell}
-use Rattle.map_core.specs.Machine.{IsWord, state_of, Reaches}
+use Rattle.map_core.specs.Machine.{IsWord, state_of}
 use Rattle.map_core.specs.Events.{Event, Lawful}
 use Rattle.map_core.specs.Passes.{look, Together}
 use Rattle.map_core.specs.Knowing.{first_view}

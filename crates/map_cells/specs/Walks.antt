@@ -1,5 +1,5 @@
 -- What steps one after another leave of a pass, where they add no entry.
-use Rattle.std.specs.Prelude.{◌≡◌, ◌⊎◌, ℕ, List, Option, Some, None}
+use Rattle.std.specs.Prelude.{◌≡◌, ◌⊎◌, ℕ, List, Some, None}
 use Rattle.map_core.specs.declared.view.View.{View}
 use Rattle.map_core.specs.Passes.{cell, Told}
 use Rattle.map_cells.specs.Steps.{Looks}

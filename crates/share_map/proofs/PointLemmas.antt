@@ -1,24 +1,23 @@
 -- What the walks and the count tell, as a call at its point.
-use Rattle.std.proofs.Common.{◌≡◌, ◌≢◌, ◌⊎◌, ℕ, ◌+◌, ◌-◌, ◌*◌, ◌<◌, ◌≤◌, true, List, [], ◌∷◌, ◌++◌, length, Option, Some, None, IfSome, IfNone, refl, sym, ap, subst, ◌∙◌, inl, inr, arith, length-append}
+use Rattle.std.proofs.Common.{◌≡◌, ℕ, ◌+◌, ◌-◌, ◌≤◌, true, List, [], ◌∷◌, ◌++◌, length, Option, Some, None, IfSome, IfNone, refl, sym, ap, subst, ◌∙◌, inl, inr, arith, length-append}
 use Rattle.map_core.specs.declared.entry.Entry.{Entry}
 use Rattle.map_core.specs.declared.layout.Layout.{Layout}
 use Rattle.map_core.specs.declared.view.View.{View}
-use Rattle.map_core.specs.History.{value_in, plain_map, IsLegalHistory, is_in, by_any, StartsWith, StartsWithOwn}
-use Rattle.map_core.specs.PlainMap.{plain_get}
+use Rattle.map_core.specs.History.{value_in, IsLegalHistory, is_in, StartsWith, StartsWithOwn}
 use Rattle.map_core.specs.Events.{entry}
 use Rattle.map_core.specs.Calls.{own, SamePass, IsPoint, FindsAt, PlacesAt, FoundAt, FullAt}
-use Rattle.map_core.specs.Passes.{placed, AtRest, Told}
+use Rattle.map_core.specs.Passes.{placed, Told}
 use Rattle.map_core.specs.Knowing.{first_view}
 use Rattle.map_core.specs.Places.{lowest}
 use Rattle.map_core.proofs.HistoryLemmas.{value_stays}
 use Rattle.map_core.proofs.CallLemmas.{map_get, starts_same, starts_trans, value_longer}
 use Rattle.map_cells.specs.Seen.{CellsView, PassView, IsOf}
-use Rattle.map_cells.specs.Steps.{Steps, Looks, CountSeen, CountRaised}
+use Rattle.map_cells.specs.Steps.{Steps, CountSeen, CountRaised}
 use Rattle.map_cells.specs.Walks.{Walks}
-use Rattle.map_cells.specs.Puts.{PutsNew, PutsFound, PutsNone}
+use Rattle.map_cells.specs.Puts.{PutsNew}
 use Rattle.map_cells.specs.Passing.{IsJoined}
 use Rattle.map_cells.proofs.Allowed.{own_stays}
-use Rattle.map_cells.proofs.WalkLemmas.{steps_then, walks_then, current_last}
+use Rattle.map_cells.proofs.WalkLemmas.{steps_then, current_last}
 use Rattle.map_core.proofs.PlaceLemmas.{one_generation, lowest_within}
 use Rattle.share_map.specs.Answers.{IsNew, HasRoom, PutTogether}
 

@@ -1,6 +1,6 @@
-use Rattle.std.proofs.Common.{◌≡◌, ◌<◌, ◌≤◌, ℕ, ◌+◌, ◌*◌, arith, sym, subst}
+use Rattle.std.proofs.Common.{◌<◌, ◌≤◌, ℕ, arith, sym, subst}
 use Rattle.map_core.specs.Sizes.{cells_of}
-use Rattle.map_core.specs.Places.{key_place, offset, word_count}
+use Rattle.map_core.specs.Places.{word_count}
 use Rattle.map_core.proofs.PlaceLemmas.{one_generation}
 use Rattle.map_cells.proofs.WordSteps.{last_cells_small, key_within, key_word_is}
 use Rattle.map_cells.proofs.places.key_word.Goals as goal

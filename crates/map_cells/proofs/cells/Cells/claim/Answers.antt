@@ -1,19 +1,16 @@
-use Rattle.std.proofs.Common.{◌≡◌, ◌≢◌, ◌<◌, ◌≤◌, ◌+◌, ◌%◌, ◌^◌, ◌==◌, ℕ, List, [], length, Some, None, refl, sym, ap, subst, ◌∙◌, arith}
+use Rattle.std.proofs.Common.{◌≡◌, ◌<◌, ◌+◌, ◌==◌, ℕ, None, sym, ap, subst, ◌∙◌}
 use mathlib.Core.Option.{none}
 use prog.Atomic.{either}
 use Rattle.atomic_table.specs.Table.{Allows, step}
 use Rattle.map_core.specs.declared.layout.Layout.{Layout}
 use Rattle.map_core.specs.declared.view.View.{View}
-use Rattle.map_core.specs.Places.{IsCell, key_place, value_place, offset, word_count}
+use Rattle.map_core.specs.Places.{IsCell, key_place, offset}
 use Rattle.map_core.specs.Machine.{Reaches}
-use Rattle.map_core.specs.Passes.{look, placed}
+use Rattle.map_core.specs.Passes.{look}
 use Rattle.map_cells.specs.Seen.{PassView, CellsView}
-use Rattle.map_cells.specs.Steps.{ClosedTo, SettledTo, KeySeen, KeyTried, ValueSeen, ValueTried, CountSeen, CountRaised}
-use Rattle.map_cells.specs.Rule.{Kept, KeyLooked, ValueLooked, CountLooked, Claimed, Published, Counted}
-use Rattle.map_cells.proofs.WordSteps.{words_pos, words_small}
-use Rattle.map_cells.proofs.Allowed.{look_allowed, read_allowed, count_look_allowed}
-use Rattle.map_cells.proofs.Exchanges.{claim_allowed, publish_allowed, count_allowed}
-use Rattle.map_cells.proofs.CallFacts.{placed_small, placed_same, placed_more, placed_counted}
+use Rattle.map_cells.specs.Steps.{SettledTo}
+use Rattle.map_cells.specs.Rule.{Kept, Claimed}
+use Rattle.map_cells.proofs.Exchanges.{claim_allowed}
 use Rattle.map_cells.proofs.cells.Cells.claim.Goals as goal
 
 pub key_word-word-requires : goal.key_word-word-requires

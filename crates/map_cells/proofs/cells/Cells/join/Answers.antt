@@ -1,10 +1,10 @@
-use Rattle.std.proofs.Common.{◌≡◌, ◌≢◌, ◌<◌, ◌≤◌, ◌+◌, ℕ, List, [], Some, None, true, refl, sym, ap, subst, ◌∙◌, arith}
+use Rattle.std.proofs.Common.{◌≡◌, ◌≢◌, ◌<◌, ◌≤◌, ◌+◌, ℕ, None, sym, ap, subst, ◌∙◌, arith}
 use mathlib.Core.Option.{none}
 use Rattle.atomic_table.specs.Table.{Joins, Allows, step}
 use Rattle.map_core.specs.declared.layout.Layout.{Layout}
 use Rattle.map_core.specs.declared.view.View.{View}
 use Rattle.map_core.specs.Places.{word_count}
-use Rattle.map_core.specs.Passes.{placed, AtRest, Told}
+use Rattle.map_core.specs.Passes.{placed, AtRest}
 use Rattle.map_core.specs.Knowing.{put_together, gone}
 use Rattle.map_cells.specs.Seen.{PassView, CellsView}
 use Rattle.map_cells.specs.Passing.{IsJoined}

@@ -1,4 +1,3 @@
-use Rattle.std.proofs.Common.{◌<◌, ℕ}
 use Rattle.map_core.specs.declared.view.View.{View}
 use Rattle.map_cells.proofs.WalkLemmas.{closed_more, settled_closed}
 use Rattle.map_cells.proofs.PutLemmas.{takes_won, takes_lost}

@@ -1,4 +1,4 @@
-use Rattle.std.proofs.Common.{◌≡◌, ℕ, ◌-◌, List, [], replicate, sym, ap, subst, ◌∙◌}
+use Rattle.std.proofs.Common.{◌≡◌, ℕ, ◌-◌, replicate, sym, ap, subst, ◌∙◌}
 use Rattle.map_core.specs.declared.view.View.{View}
 use Rattle.map_core.specs.Passes.{placed, Told}
 use Rattle.map_core.specs.Knowing.{first_view}

@@ -1,19 +1,16 @@
-use Rattle.std.proofs.Common.{◌≡◌, ◌≢◌, ◌<◌, ◌≤◌, ◌+◌, ◌%◌, ◌^◌, ◌==◌, ℕ, List, [], length, Some, None, refl, sym, ap, subst, ◌∙◌, arith}
+use Rattle.std.proofs.Common.{◌≡◌, ◌<◌, ◌≤◌, ◌+◌, ◌==◌, ℕ, sym, ap, subst, ◌∙◌, arith}
 use mathlib.Core.Option.{none}
 use prog.Atomic.{either}
 use Rattle.atomic_table.specs.Table.{Allows, step}
 use Rattle.map_core.specs.declared.layout.Layout.{Layout}
 use Rattle.map_core.specs.declared.view.View.{View}
-use Rattle.map_core.specs.Places.{IsCell, key_place, value_place, offset, word_count}
-use Rattle.map_core.specs.Machine.{Reaches}
+use Rattle.map_core.specs.Places.{IsCell, key_place, value_place, offset}
 use Rattle.map_core.specs.Passes.{look, placed}
 use Rattle.map_cells.specs.Seen.{PassView, CellsView}
-use Rattle.map_cells.specs.Steps.{MayPublish, ClosedTo, SettledTo, KeySeen, KeyTried, ValueSeen, ValueTried, CountSeen, CountRaised}
-use Rattle.map_cells.specs.Rule.{Kept, KeyLooked, ValueLooked, CountLooked, Claimed, Published, Counted}
-use Rattle.map_cells.proofs.WordSteps.{words_pos, words_small}
-use Rattle.map_cells.proofs.Allowed.{look_allowed, read_allowed, count_look_allowed}
-use Rattle.map_cells.proofs.Exchanges.{claim_allowed, publish_allowed, count_allowed}
-use Rattle.map_cells.proofs.CallFacts.{placed_small, placed_same, placed_more, placed_counted}
+use Rattle.map_cells.specs.Steps.{MayPublish, ValueTried}
+use Rattle.map_cells.specs.Rule.{Kept, Published}
+use Rattle.map_cells.proofs.Exchanges.{publish_allowed}
+use Rattle.map_cells.proofs.CallFacts.{placed_small, placed_same, placed_more}
 use Rattle.map_core.specs.Events.{entry}
 use Rattle.map_cells.proofs.cells.Cells.publish.Goals.{then-found-eq0, else-found-eq0}
 use Rattle.map_cells.proofs.cells.Cells.publish.Goals as goal

@@ -1,10 +1,9 @@
-use Rattle.std.proofs.Common.{List, inr, ◌≡◌, ◌<◌, ℕ, sym, subst, ◌∙◌}
+use Rattle.std.proofs.Common.{List, inr, ℕ, sym, subst, ◌∙◌}
 use Rattle.map_core.specs.declared.layout.Layout.{Layout}
 use Rattle.map_core.specs.declared.view.View.{View}
-use Rattle.map_core.specs.Places.{IsCell, key_place}
-use Rattle.map_core.specs.Passes.{look}
+use Rattle.map_core.specs.Places.{IsCell}
 use Rattle.map_cells.proofs.WalkLemmas.{closed_more}
-use Rattle.map_cells.proofs.PutLemmas.{puts_new, puts_found, puts_other}
+use Rattle.map_cells.proofs.PutLemmas.{puts_new, puts_found}
 use Rattle.map_cells.proofs.cells.Cells.put_at.Goals as goal
 
 pub publish-requires-clause-fits : goal.publish-requires-clause-fits

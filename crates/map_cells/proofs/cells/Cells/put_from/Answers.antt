@@ -1,10 +1,10 @@
-use Rattle.std.proofs.Common.{◌≡◌, ◌≤◌, ◌<◌, ℕ, List, true, refl, sym, ap, subst, ◌∙◌, arith}
+use Rattle.std.proofs.Common.{◌≤◌, ◌<◌, ℕ, refl, sym, ap, subst, ◌∙◌, arith}
 use Rattle.map_core.specs.declared.layout.Layout.{Layout}
 use Rattle.map_core.specs.declared.view.View.{View}
 use Rattle.map_core.specs.Sizes.{cells_of}
-use Rattle.map_core.specs.Places.{spot, Within, IsCell}
+use Rattle.map_core.specs.Places.{Within}
 use Rattle.map_core.proofs.SizeLemmas.{last_small}
-use Rattle.map_cells.proofs.WalkLemmas.{walks_then, current_last, walk_starts, walk_goes, walk_cell, walk_next, walk_ends}
+use Rattle.map_cells.proofs.WalkLemmas.{current_last, walk_starts, walk_goes, walk_cell, walk_next, walk_ends}
 use Rattle.map_cells.proofs.PutLemmas.{new_after, found_after}
 use Rattle.map_cells.proofs.cells.Cells.put_from.Goals as goal
 

@@ -1,9 +1,8 @@
-use Rattle.std.proofs.Common.{◌≡◌, ◌<◌, ℕ, sym, ap, subst, ◌∙◌, refl}
+use Rattle.std.proofs.Common.{◌≡◌, ap, ◌∙◌, refl}
 use Rattle.map_core.specs.declared.view.View.{View}
 use Rattle.map_core.specs.declared.layout.Layout.{Layout}
 use Rattle.map_core.specs.Places.{key_place}
 use Rattle.map_core.specs.Passes.{look}
-use Rattle.map_cells.specs.Steps.{ClosedTo}
 use Rattle.map_cells.proofs.WalkLemmas.{walks_then, key_walks, value_walks, closed_more}
 use Rattle.map_cells.proofs.cells.Cells.seek_at.Goals as goal
 

@@ -1,5 +1,4 @@
-use Rattle.std.proofs.Common.{◌≡◌, ◌≤◌, ◌-◌, ◌<◌, ℕ}
-use Rattle.map_core.specs.Sizes.{cells_of}
+use Rattle.std.proofs.Common.{◌≡◌, ◌-◌}
 use Rattle.map_cells.proofs.WalkLemmas.{Walked}
 use Rattle.map_cells.proofs.cells.Cells.seek_from.Given as goal
 

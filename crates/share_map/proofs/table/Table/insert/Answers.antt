@@ -1,4 +1,4 @@
-use Rattle.std.proofs.Common.{◌≡◌, ◌≤◌, ℕ, List, length, true, Some, sym, ap, subst, ◌∙◌, arith}
+use Rattle.std.proofs.Common.{◌≡◌, ◌≤◌, ℕ, length, sym, ap, subst, ◌∙◌, arith}
 use Rattle.map_core.specs.declared.layout.Layout.{Layout}
 use Rattle.map_core.specs.declared.view.View.{View}
 use Rattle.map_core.specs.History.{is_in}

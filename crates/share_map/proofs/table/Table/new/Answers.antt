@@ -1,4 +1,3 @@
-use Rattle.std.proofs.Common.{ℕ}
 use Rattle.share_map.proofs.PointLemmas.{is_new}
 use Rattle.share_map.proofs.table.Table.new.Goals as goal
 

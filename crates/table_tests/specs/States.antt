@@ -1,0 +1,37 @@
+-- What a test knows of a pass between two steps.
+use Rattle.std.specs.Prelude.{◌≡◌, ◌⊎◌, ℕ, [], length, Some, None}
+use Rattle.map_core.specs.declared.cell.Cell.{Cell}
+use Rattle.map_core.specs.declared.layout.Layout.{Layout}
+use Rattle.map_core.specs.declared.view.View.{View}
+use Rattle.map_core.specs.Places.{key_place, IsCell}
+use Rattle.map_core.specs.Machine.{Reaches}
+use Rattle.map_core.specs.Passes.{look, cell, AtRest}
+use Rattle.map_cells.specs.Seen.{CellsView, PassView, IsOf}
+
+-- the walk of the key begins in this cell of the last generation
+pub record IsHome (l : Layout) (k : ℕ) (c : Cell) : Type 0 where
+  pub generation : c.generation ≡ l.last
+  pub within : IsCell l c.generation c.index
+  pub reached : (C : ℕ → ℕ) → Reaches l C c.generation c.index k
+
+-- the pass is of these cells, and has nothing under way
+pub record Idle (c : CellsView) (p : PassView) : Type 0 where
+  pub of_table : IsOf c p
+  pub rest : AtRest p.knows
+
+-- no cell but this one is claimed by the pass
+abbrev pub ClaimsAtMost : View → Cell → Type 0
+ClaimsAtMost v c = (v.claim ≡ None) ⊎ (v.claim ≡ Some (cell c.generation c.index))
+
+-- the pass has seen the key in the cell, which it may have claimed
+pub record SawKey (c : CellsView) (p : PassView) (at : Cell) (k : ℕ) : Type 0 where
+  pub of_table : IsOf c p
+  pub claim : ClaimsAtMost p.knows at
+  pub uncounted : p.knows.uncounted ≡ []
+  pub seen : look p.knows.known (key_place p.knows.layout at.generation at.index) ≡ k
+
+-- the pass has placed one entry that it has not counted
+pub record Owes (c : CellsView) (p : PassView) : Type 0 where
+  pub of_table : IsOf c p
+  pub claim : p.knows.claim ≡ None
+  pub one : length p.knows.uncounted ≡ 1

@@ -1,0 +1,31 @@
+//! Loads the shared table from several threads, and prints what its calls answered.
+//!
+//! The words are `THREADS CAPACITY KEYS ROUNDS own|same`, and perhaps `times`. A table for CAPACITY entries gets KEYS
+//! keys: under `own` each thread inserts a part of them, under `same` each inserts them all. Then each thread looks
+//! each of them up ROUNDS times, and after that as many keys that the table hasn't. What is printed is the same
+//! whatever the threads' order, but for the nanoseconds of the three phases, which `times` adds. Other words give
+//! status 2.
+#![tactic(auto)]
+
+mod callers;
+mod keys;
+mod load;
+mod tally;
+
+use callers::callers;
+use load::Load;
+use std::process::ExitCode;
+use std::{env, io};
+
+fn main(rt: HostRuntime) -> io::Result<ExitCode> {
+    let alloc = rt.alloc();
+    let mut words = Vec::new(alloc);
+    for word in env::args(&rt)?.skip(1) {
+        words.push(word)?;
+    }
+    let Some(load) = Load::of_words(words.as_slice()) else {
+        return Ok(ExitCode::from(2));
+    };
+    load.run(&rt, alloc)?;
+    Ok(ExitCode::from(0))
+}

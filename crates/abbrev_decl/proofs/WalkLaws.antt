@@ -66,8 +66,12 @@ declaration_ahead : (section : List ℕ) (place : ℕ) → DeclAhead place (decl
 unfolding declaration_at
 declaration_ahead section place = declared_ahead section place (head_at section place) (head_ahead section place)
 
+-- a declaration ends behind its place
+pub declaration_forward : (section : List ℕ) (place next : ℕ) (declaration : DeclView) → declaration_at section place ≡ Ok (Some (declaration, next)) → place < next
+declaration_forward section place next declaration e = rw e at (declaration_ahead section place)
+
 -- at the end no declaration stands
-declaration_end : (section : List ℕ) (place : ℕ) → length section ≤ place → declaration_at section place ≡ Err (fault DeclTruncated place)
+pub declaration_end : (section : List ℕ) (place : ℕ) → length section ≤ place → declaration_at section place ≡ Err (fault DeclTruncated place)
 unfolding declaration_at head_at
 declaration_end section place h = rw (uleb_end (from section place) h) refl
 
@@ -169,7 +173,8 @@ declaration_place : (section : List ℕ) (place next : ℕ) (declaration : DeclV
 unfolding declaration_at
 declaration_place section place next declaration e = rw e at (declared_place section place (head_at section place))
 
-declaration_inside : (section : List ℕ) (place next : ℕ) (declaration : DeclView) → declaration_at section place ≡ Ok (Some (declaration, next)) → place < length section
+-- a declaration begins inside its section
+pub declaration_inside : (section : List ℕ) (place next : ℕ) (declaration : DeclView) → declaration_at section place ≡ Ok (Some (declaration, next)) → place < length section
 declaration_inside section place next declaration e =
     elim (leb_tells (length section) place)
     [ inl past ↦ (let none = declaration_end section place past.1 in absurd cc) | inr within ↦ within.1 ]

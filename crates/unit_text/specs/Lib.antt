@@ -4,6 +4,7 @@ pub mod UnitLine
 pub mod SectionLine
 pub mod Declarations
 pub mod Tables
+pub mod TableTiles
 pub mod Lists
 pub mod Values
 pub mod Units

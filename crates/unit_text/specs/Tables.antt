@@ -35,9 +35,13 @@ table_from (suc most) section place = table_on (declaration_at section place) (z
 unfoldable pub table_from_start : List ℕ → ℕ → List ℕ × Result ℕ Fault
 table_from_start section table = table_from (length section + 1) section table
 
+-- the line of the table at a place
+abbrev pub table_line : ℕ → List ℕ
+table_line table = labelled (codes "table 0x") (hex table) ++ (10 ∷ [])
+
 -- the line of the table at a place, and its declarations
 unfoldable pub headed_table : List ℕ → ℕ → List ℕ × Result ℕ Fault
-headed_table section table = after (labelled (codes "table 0x") (hex table) ++ (10 ∷ [])) (table_from_start section table)
+headed_table section table = after (table_line table) (table_from_start section table)
 
 -- A table, and then the tables behind it where it ends with a code 0. The text comes with the fault, if there is one.
 abbrev pub tables_on : List ℕ × Result ℕ Fault → (ℕ → List ℕ × Option Fault) → List ℕ × Option Fault

@@ -5,6 +5,7 @@
 #![tactic(auto)]
 
 mod declaration_text;
+mod laws;
 mod lists;
 mod pieces;
 mod section_line;
@@ -13,6 +14,7 @@ mod unit_line;
 mod units;
 mod values;
 
+pub use laws::tables_tile_the_section;
 pub use lists::write_lists;
 pub use section_line::write_section;
 pub use tables::write_tables;

@@ -5,3 +5,4 @@ pub mod Names
 pub mod Refusals
 pub mod Rows
 pub mod Shapes
+pub mod StringTables

@@ -16,6 +16,7 @@ mod numbers;
 mod reading;
 mod refusals;
 mod section_list;
+mod string_table;
 mod table;
 #[cfg(test)]
 mod tests;

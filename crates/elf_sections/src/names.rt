@@ -1,11 +1,12 @@
 //! What a section header stands for: the section's name and bytes.
 
-ghost use Rattle.std.specs.Prelude.{◌≡◌, ◌==◌, false, length, position, option_map};
+ghost use Rattle.std.specs.Prelude.{◌≡◌, false, option_map};
 ghost use Rattle.elf_sections.specs.Shapes.{row};
-ghost use Rattle.elf_sections.specs.Names.{has_bytes, is_out_of_bounds, contents_of, before_zero, name_of, is_compressed};
+ghost use Rattle.elf_sections.specs.Names.{has_bytes, is_out_of_bounds, contents_of, name_of, is_compressed};
 
 use crate::headed::Section;
 use crate::header::Header;
+use crate::string_table::StringTable;
 
 /// Whether sections of this type have bytes in the file.
 fn has_bytes(kind: u32) -> bool
@@ -37,39 +38,14 @@ pub(crate) fn contents_of<'f>(file: &'f [u8], header: &Header) -> &'f [u8]
     }
 }
 
-/// The place of the first zero byte.
-fn first_zero(bytes: &[u8]) -> Option<usize>
-    ensures { result ≡ position (λ b. b == 0) bytes.now }
-{
-    bytes.iter().position(|b| *b == 0)
-}
-
-/// The bytes before the first zero byte.
-#[tactic(auto, unfolding(crate::specs::Names::before_zero))]
-fn before_zero(bytes: &[u8]) -> Option<&[u8]>
-    ensures { option_map (λ b. b.now) result ≡ before_zero bytes.entry.now }
-{
-    match first_zero(bytes) {
-        Some(end) => Some(&bytes[..end]),
-        None => None,
-    }
-}
-
-/// The name that a header gives in the names' bytes.
+/// The name that a header gives in the table of the names; every name is empty where there is none.
 #[tactic(auto, unfolding(crate::specs::Names::name_of))]
-pub(crate) fn name_of<'f>(names: Option<&'f [u8]>, header: &Header) -> Option<&'f [u8]>
-    ensures { option_map (λ b. b.now) result ≡ name_of (option_map (λ b. b.now) names.entry) header.now }
+pub(crate) fn name_of<'f>(names: &Option<StringTable<'f>>, header: &Header) -> Option<&'f [u8]>
+    ensures { option_map (λ b. b.now) result ≡ name_of names.now header.now }
 {
     match names {
         None => Some(&[]),
-        Some(bytes) => {
-            let offset = header.name as usize;
-            if offset >= bytes.len() {
-                None
-            } else {
-                before_zero(&bytes[offset..])
-            }
-        }
+        Some(table) => table.text_at(header.name as usize),
     }
 }
 

@@ -1,6 +1,6 @@
 //! The section headers in their order, and the first that is refused.
 
-ghost use Rattle.std.specs.Prelude.{◌≡◌, ◌+◌, ◌*◌, ◌<◌, ◌≤◌, ◌^◌, ◌++◌, ◌∷◌, [], None, length, map, option_map, OnOk, IfErr};
+ghost use Rattle.std.specs.Prelude.{◌≡◌, ◌+◌, ◌*◌, ◌<◌, ◌≤◌, ◌^◌, ◌++◌, ◌∷◌, [], None, length, map, option_map, OnOk, IfOk, IfErr};
 ghost use Rattle.elf_sections.specs.Refusals.{Opens, first_in};
 ghost use Rattle.elf_sections.specs.Headers.{IsInside, header_of, headers_of};
 ghost use Rattle.elf_sections.specs.Names.{is_out_of_bounds, is_compressed, name_bytes, named_rows, rows_of};
@@ -11,6 +11,7 @@ use crate::header::{Header, header_size, read_header};
 use crate::layout::Layout;
 use crate::names::{contents_of, is_compressed, is_out_of_bounds, name_of};
 use crate::refusals::{ElfRefusal, OpenRefusal};
+use crate::string_table::StringTable;
 use crate::table::Table;
 use std::alloc::Global;
 
@@ -53,6 +54,29 @@ fn name_bytes<'f>(file: &'f [u8], layout: Layout, table: Table) -> Option<&'f [u
     Some(contents_of(file, &header))
 }
 
+/// The string table of the names, where there is one.
+fn read_names<'f>(
+    alloc: Global,
+    file: &'f [u8],
+    layout: Layout,
+    table: Table,
+) -> Result<Option<StringTable<'f>>, OpenRefusal>
+    requires inside { IsInside layout table file.now }
+    requires some { 0 < table.count }
+    requires bounds { first_in (is_out_of_bounds file.now) 1 (headers_of layout table file.now) ≡ None }
+    ensures names { IfOk result (λ names. names ≡ name_bytes layout table file.entry.now) }
+    ensures memory { IfErr result (λ e. e ≡ OpenRefusal.OutOfMemory) }
+{
+    let bytes = match name_bytes(file, layout, table) {
+        Some(bytes) => bytes,
+        None => return Ok(None),
+    };
+    match StringTable::new(alloc, bytes) {
+        Ok(names) => Ok(Some(names)),
+        Err(_) => Err(OpenRefusal::OutOfMemory),
+    }
+}
+
 /// Section 0, whatever its header holds.
 const NULL_SECTION: Section<'static> = Section {
     name: &[],
@@ -80,12 +104,12 @@ fn named_sections<'f>(
     file: &'f [u8],
     layout: Layout,
     table: Table,
-    names: Option<&'f [u8]>,
+    names: &Option<StringTable<'f>>,
 ) -> Result<Vec<Section<'f>>, OpenRefusal>
     requires inside { IsInside layout table file.now }
     requires some { 0 < table.count }
     requires bounds { first_in (is_out_of_bounds file.now) 1 (headers_of layout table file.now) ≡ None }
-    ensures { Opens (λ v. map row v.items) result (named_rows layout table file.entry.now (option_map (λ b. b.now) names.entry)) }
+    ensures { Opens (λ v. map row v.items) result (named_rows layout table file.entry.now names.now) }
 {
     let mut sections = Vec::new(alloc);
     match add(&mut sections, NULL_SECTION) {
@@ -142,8 +166,11 @@ pub(crate) fn read_sections<'f>(
     if let Some(number) = first_out_of_bounds(file, layout, table) {
         return Err(OpenRefusal::Refused(ElfRefusal::SectionBounds(number)));
     }
-    let names = name_bytes(file, layout, table);
-    let sections = match named_sections(alloc, file, layout, table, names) {
+    let names = match read_names(alloc, file, layout, table) {
+        Ok(names) => names,
+        Err(refusal) => return Err(refusal),
+    };
+    let sections = match named_sections(alloc, file, layout, table, &names) {
         Ok(sections) => sections,
         Err(refusal) => return Err(refusal),
     };

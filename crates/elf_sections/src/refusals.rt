@@ -33,6 +33,6 @@ pub enum ElfRefusal {
 pub enum OpenRefusal {
     /// The file is refused.
     Refused(ElfRefusal),
-    /// There was no memory for the list.
+    /// There was no memory for the list, or for the ends of the names' texts.
     OutOfMemory,
 }

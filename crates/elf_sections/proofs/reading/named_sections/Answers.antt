@@ -1,4 +1,4 @@
-use Rattle.std.proofs.Common.{◌+◌, ◌-◌, ◌∙◌, sym, option_map, arith}
+use Rattle.std.proofs.Common.{◌+◌, ◌-◌, ◌∙◌, sym, arith}
 use Rattle.elf_sections.specs.Headers.{header_of}
 use Rattle.elf_sections.specs.Names.{is_out_of_bounds, has_no_name, null_row, row_of}
 use Rattle.elf_sections.proofs.First.{first_next, first_here, none_inside}
@@ -7,9 +7,9 @@ use Rattle.elf_sections.proofs.reading.named_sections.Goals as goal
 
 pub returns-in-None : goal.returns-in-None
 returns-in-None c =
-    name_refused c.args.layout c.args.table c.args.file.now (option_map (λ b. b.now) c.args.names) c.loop-number.number
+    name_refused c.args.layout c.args.table c.args.file.now c.args.names.now c.loop-number.number
     (sym c.loop-number.invariant.first
-    ∙ first_here (has_no_name (option_map (λ b. b.now) c.args.names)) (header_of c.args.layout c.args.table c.args.file.now) c.loop-number.number
+    ∙ first_here (has_no_name c.args.names.now) (header_of c.args.layout c.args.table c.args.file.now) c.loop-number.number
     (c.args.table.count - c.loop-number.number) (c.args.table.count - (c.loop-number.number + 1)) (omega arith)
     (no_name_here _ _ _ c.header_of-header.ensures c.in-None.ensures))
 
@@ -20,11 +20,11 @@ contents_of-requires c =
 
 pub loop-number-preserved : goal.loop-number-preserved
 loop-number-preserved c = record {
-  first = first_next (has_no_name (option_map (λ b. b.now) c.args.names)) (header_of c.args.layout c.args.table c.args.file.now) c.loop-number.number
+  first = first_next (has_no_name c.args.names.now) (header_of c.args.layout c.args.table c.args.file.now) c.loop-number.number
       (c.args.table.count - c.loop-number.number) (c.args.table.count - (c.loop-number.number + 1)) (omega arith)
       (name_here _ _ _ _ c.header_of-header.ensures c.in-Some.ensures)
       ∙ c.loop-number.invariant.first;
-  rows = rows_more (row_of c.args.file.now (option_map (λ b. b.now) c.args.names)) (header_of c.args.layout c.args.table c.args.file.now) null_row
+  rows = rows_more (row_of c.args.file.now c.args.names.now) (header_of c.args.layout c.args.table c.args.file.now) null_row
       c.loop-number.number _ _ _ (omega arith) c.loop-number.invariant.rows c.in-Ok-add.ensures.added
-      (row_here c.args.file.now (option_map (λ b. b.now) c.args.names) _ _ _ _ c.header_of-header.ensures c.in-Some.ensures c.contents_of.ensures);
+      (row_here c.args.file.now c.args.names.now _ _ _ _ c.header_of-header.ensures c.in-Some.ensures c.contents_of.ensures);
 }

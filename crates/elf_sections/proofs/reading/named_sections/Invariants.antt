@@ -1,4 +1,4 @@
-use Rattle.std.proofs.Common.{◌≡◌, ◌-◌, map, ◌∷◌, option_map}
+use Rattle.std.proofs.Common.{◌≡◌, ◌-◌, map, ◌∷◌}
 use Rattle.std.specs.List.{range_with_len}
 use Rattle.elf_sections.specs.Refusals.{first_in}
 use Rattle.elf_sections.specs.Headers.{header_of, headers_of}
@@ -8,7 +8,7 @@ use Rattle.elf_sections.proofs.reading.named_sections.Given as goal
 
 abbrev pub invariant-loop-number : goal.invariant-loop-number
 invariant-loop-number l = record {
-  first : first_in (has_no_name (option_map (λ b. b.now) l.names)) l.number (map (header_of l.layout l.table l.file) (range_with_len l.number (l.table.count - l.number)))
-      ≡ first_in (has_no_name (option_map (λ b. b.now) l.names)) 1 (headers_of l.layout l.table l.file);
-  rows : map row l.sections.items ≡ null_row ∷ map (row_of l.file (option_map (λ b. b.now) l.names)) (map (header_of l.layout l.table l.file) (range_with_len 1 (l.number - 1)));
+  first : first_in (has_no_name l.names) l.number (map (header_of l.layout l.table l.file) (range_with_len l.number (l.table.count - l.number)))
+      ≡ first_in (has_no_name l.names) 1 (headers_of l.layout l.table l.file);
+  rows : map row l.sections.items ≡ null_row ∷ map (row_of l.file l.names) (map (header_of l.layout l.table l.file) (range_with_len 1 (l.number - 1)));
 }

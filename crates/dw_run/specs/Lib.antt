@@ -1,5 +1,6 @@
 pub mod Commands
 pub mod Told
+pub mod FirstRefusal
 pub mod Words
 pub mod Endings
 pub mod Output

@@ -3,6 +3,7 @@
 
 mod command;
 mod endings;
+mod laws;
 mod program;
 mod refusal_lines;
 mod refusals;
@@ -15,4 +16,5 @@ mod words;
 
 pub use command::Command;
 pub use elf_builder::ElfBuilder;
+pub use laws::texts_before_the_first_refusal;
 pub use program::{RunEnd, run};

@@ -1,8 +1,11 @@
 -- What the commands tell of each unit.
-use Rattle.std.specs.Prelude.{ℕ, length, Ok}
+use Rattle.std.specs.Prelude.{ℕ, List, length, Result, Ok}
+use Rattle.dw_fields.specs.declared.fault_code.Fault.{Fault}
 use Rattle.dw_fields.specs.Reading.{◌>>=◌}
 use Rattle.elf_sections.specs.Shapes.{SectionsView}
 use Rattle.entry_tree.specs.Units.{entries_of, facts_of}
+use Rattle.entry_tree.specs.Views.{EntryView}
+use Rattle.form_values.specs.declared.raw.UnitFacts.{UnitFacts}
 use Rattle.line_text.specs.LineTable.{lines_text}
 use Rattle.unit_headers.specs.declared.fields.UnitHeader.{UnitHeader}
 use Rattle.unit_headers.specs.Headers.{header_at, unit_count}
@@ -19,31 +22,26 @@ use Rattle.dw_run.specs.Told.{Told, units_told}
 abbrev pub units_of : SectionsView → Units
 units_of s = record { info = s.info; order = s.order; abbrev_length = length s.«abbrev» }
 
--- the whole text of a unit: refused at its root, its entries, or a value that can't be resolved
-unfoldable pub entries_part : SectionsView → UnitHeader → Text
-entries_part s header = do
+-- what a unit's first entry says of it, and all its entries: refused at its root, or else at an entry
+unfoldable pub unit_of : SectionsView → UnitHeader → Result (UnitFacts × List EntryView) Fault
+unit_of s header = do
   facts ← facts_of s header
   entries ← entries_of s header
-  read_unit_text header s facts.bases entries
+  Ok (facts, entries)
 
--- the line table of a unit: refused at its root or in its line program
-unfoldable pub lines_part : SectionsView → UnitHeader → Text
-lines_part s header = do
+-- The line of a unit; its whole text, refused where the unit is or at a value that can't be resolved; its line table,
+-- refused at the unit's root or in the line program; its lists, refused where the unit is or in a list.
+unfoldable pub part_of : Part → SectionsView → UnitHeader → Text
+part_of parts.Line s header = Ok (unit_line header)
+part_of parts.Entries s header = do
+  unit ← unit_of s header
+  read_unit_text header s unit.0.bases unit.1
+part_of parts.LineTable s header = do
   facts ← facts_of s header
   lines_text s header facts.line
-
--- the lists of a unit: refused at its root, its entries or in a list
-unfoldable pub lists_part : SectionsView → UnitHeader → Text
-lists_part s header = do
-  facts ← facts_of s header
-  entries ← entries_of s header
-  lists_text (record { sections = s; header = header; facts = facts }) entries
-
-abbrev pub part_of : Part → SectionsView → UnitHeader → Text
-part_of parts.Line s header = Ok (unit_line header)
-part_of parts.Entries s header = entries_part s header
-part_of parts.LineTable s header = lines_part s header
-part_of parts.Lists s header = lists_part s header
+part_of parts.Lists s header = do
+  unit ← unit_of s header
+  lists_text (record { sections = s; header = header; facts = unit.0 }) unit.1
 
 -- a part of the unit with this number, which is refused at its header first
 unfoldable pub unit_part : Part → SectionsView → ℕ → Text

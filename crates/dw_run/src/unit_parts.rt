@@ -1,12 +1,14 @@
 //! What the commands tell of each unit: its line, its entries, its line table, or its lists.
 
-ghost use Rattle.std.specs.Prelude.{◌≡◌, ◌<◌, ◌^◌, length};
+ghost use Rattle.std.specs.Prelude.{◌≡◌, ◌<◌, ◌^◌, length, map};
 ghost use Rattle.dw_outside.specs.Faults.{HasCause};
 ghost use Rattle.dw_outside.specs.declared.stops.WriteStop.TheVariants as write_stops;
 ghost use Rattle.elf_sections.specs.Shapes.{AreShort, sections_view};
-ghost use Rattle.entry_tree.specs.Units.{IsUnitOf};
+ghost use Rattle.entry_tree.specs.Units.{IsUnitOf, facts_of};
+ghost use Rattle.entry_tree.specs.Views.{entry_view};
+ghost use Rattle.unit_headers.specs.Refusals.{Answers};
 ghost use Rattle.unit_text.specs.Pieces.{Writes};
-ghost use Rattle.dw_run.specs.UnitParts.{entries_part, lines_part, lists_part, part_of, units_part_told};
+ghost use Rattle.dw_run.specs.UnitParts.{part_of, unit_of, units_part_told};
 ghost use Rattle.dw_run.specs.Told.{Tells};
 
 use crate::refusals::Refusal;
@@ -16,7 +18,8 @@ use abbrev_decl::{Scanner, Steps};
 use bumpalo::Bump;
 use dw_outside::{Sink, WriteStop};
 use elf_sections::Sections;
-use entry_tree::{read_entries, root_facts};
+use entry_tree::{Entry, read_entries, root_facts};
+use form_values::UnitFacts;
 use line_text::write_lines;
 use std::alloc::Global;
 use unit_headers::{UnitHeader, UnitIndex, UnitRefusal};
@@ -62,6 +65,7 @@ pub(crate) fn tell_parts<O: Sink>(
 }
 
 /// Appends this part of the unit of a header; `out` is as it was after a refusal.
+#[tactic(auto, unfolding(crate::specs::UnitParts::part_of))]
 pub(crate) fn append_part(
     alloc: Global,
     part: Part,
@@ -79,77 +83,48 @@ pub(crate) fn append_part(
             Ok(()) => Ok(()),
             Err(_) => Err(UnitRefusal::OutOfMemory),
         },
-        Part::Entries => append_entries(alloc, arena, sections, header, out),
-        Part::LineTable => append_lines(alloc, sections, header, out),
-        Part::Lists => append_lists(alloc, arena, sections, header, out),
+        Part::Entries => {
+            let (facts, entries) = read_unit(arena, sections, header)?;
+            write_unit(alloc, header, entries, sections, &facts, out)
+        }
+        Part::LineTable => {
+            let facts = read_facts(sections, header)?;
+            write_lines(alloc, sections, header, &facts, out)
+        }
+        Part::Lists => {
+            let (facts, entries) = read_unit(arena, sections, header)?;
+            write_lists(alloc, sections, header, &facts, entries, out)
+        }
     }
 }
 
-#[tactic(auto, unfolding(crate::specs::UnitParts::entries_part))]
-fn append_entries(
-    alloc: Global,
-    arena: &Bump,
-    sections: &Sections<'_>,
-    header: &UnitHeader,
-    out: &mut Vec<u8>,
-) -> Result<(), UnitRefusal>
-    requires unit { IsUnitOf (sections_view sections.now) header.now }
-    requires short { AreShort (sections_view sections.now) }
-    ensures { Writes result out.old.items out.new.items (entries_part (sections_view sections.now) header.now) }
-{
-    let mut scanner = Scanner::new(sections.abbrev);
-    let mut steps = Steps::start(());
-    let facts = match root_facts(&mut scanner, header, sections, &mut steps) {
-        Ok(facts) => facts,
-        Err(fault) => return Err(UnitRefusal::Refused(fault)),
-    };
-    let entries = match read_entries(arena, &mut scanner, header, sections, &mut steps) {
-        Ok(entries) => entries,
-        Err(refusal) => return Err(refusal),
-    };
-    write_unit(alloc, header, entries, sections, &facts, out)
-}
-
-#[tactic(auto, unfolding(crate::specs::UnitParts::lines_part))]
-fn append_lines(
-    alloc: Global,
-    sections: &Sections<'_>,
-    header: &UnitHeader,
-    out: &mut Vec<u8>,
-) -> Result<(), UnitRefusal>
+/// What the unit's first entry says of it.
+fn read_facts(sections: &Sections<'_>, header: &UnitHeader) -> Result<UnitFacts, UnitRefusal>
     requires { IsUnitOf (sections_view sections.now) header.now }
-    ensures { Writes result out.old.items out.new.items (lines_part (sections_view sections.now) header.now) }
+    ensures { Answers (λ facts. facts) result (facts_of (sections_view sections.now) header.now) }
 {
     let mut scanner = Scanner::new(sections.abbrev);
     let mut steps = Steps::start(());
-    let facts = match root_facts(&mut scanner, header, sections, &mut steps) {
-        Ok(facts) => facts,
-        Err(fault) => return Err(UnitRefusal::Refused(fault)),
-    };
-    write_lines(alloc, sections, header, &facts, out)
+    match root_facts(&mut scanner, header, sections, &mut steps) {
+        Ok(facts) => Ok(facts),
+        Err(fault) => Err(UnitRefusal::Refused(fault)),
+    }
 }
 
-#[tactic(auto, unfolding(crate::specs::UnitParts::lists_part))]
-fn append_lists(
-    alloc: Global,
-    arena: &Bump,
-    sections: &Sections<'_>,
+/// What the unit's first entry says of it, and all its entries, in the arena.
+#[tactic(auto, unfolding(crate::specs::UnitParts::unit_of))]
+fn read_unit<'a, 'f: 'a>(
+    arena: &'a Bump,
+    sections: &Sections<'f>,
     header: &UnitHeader,
-    out: &mut Vec<u8>,
-) -> Result<(), UnitRefusal>
+) -> Result<(UnitFacts, &'a [Entry<'a>]), UnitRefusal>
     requires unit { IsUnitOf (sections_view sections.now) header.now }
     requires short { AreShort (sections_view sections.now) }
-    ensures { Writes result out.old.items out.new.items (lists_part (sections_view sections.now) header.now) }
+    ensures { Answers (λ read. (read.0, map entry_view read.1.now)) result (unit_of (sections_view sections.entry.now) header.now) }
 {
+    let facts = read_facts(sections, header)?;
     let mut scanner = Scanner::new(sections.abbrev);
     let mut steps = Steps::start(());
-    let facts = match root_facts(&mut scanner, header, sections, &mut steps) {
-        Ok(facts) => facts,
-        Err(fault) => return Err(UnitRefusal::Refused(fault)),
-    };
-    let entries = match read_entries(arena, &mut scanner, header, sections, &mut steps) {
-        Ok(entries) => entries,
-        Err(refusal) => return Err(refusal),
-    };
-    write_lists(alloc, sections, header, &facts, entries, out)
+    let entries = read_entries(arena, &mut scanner, header, sections, &mut steps)?;
+    Ok((facts, entries))
 }

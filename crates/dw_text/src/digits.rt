@@ -1,29 +1,24 @@
-//! The digits of a number, filled into a small array from its end.
-ghost use Rattle.std.specs.Prelude.{◌≡◌, ◌≤◌, drop, false};
-ghost use Rattle.std.specs.Fmt.{digits};
-ghost use Rattle.dw_text.specs.Numbers.{sixteen};
+//! The hexadecimal digits of a number, written from its end.
+ghost use Rattle.std.specs.Prelude.{◌≡◌, ◌+◌, ◌≤◌, ◌++◌, length, drop};
+ghost use Rattle.dw_text.specs.Numbers.{hex, sixteen};
 
 use crate::glyphs::glyph;
 
-/// As many digits as a `u64` has in the base ten.
-pub const MOST: usize = 20;
-
-/// Fills the digits of `number` in `base` into the end of `into`, and answers where they begin.
-///
-/// It is inlined, so that each base is a constant where it divides.
-#[inline(always)]
-pub fn fill_digits(into: &mut [u8; MOST], base: u64, number: u64) -> usize
-    requires low { 10 ≤ base }
-    requires high { base ≤ 16 }
-    ensures within { result ≤ 20 }
-    ensures text { drop result into.new ≡ digits base false number }
+/// Writes the hexadecimal digits of `number` so that they end at `end`, and answers where they begin.
+#[inline]
+pub fn write_hex(into: &mut [u8], end: usize, number: u64) -> usize
+    requires room { 16 ≤ end }
+    requires within { end ≤ length into.old }
+    ensures begins { result ≤ end }
+    ensures few { end ≤ result + 16 }
+    ensures text { drop result into.new ≡ hex number ++ drop end into.old }
 {
-    let mut first = MOST;
+    let mut first = end;
     let mut rest = number;
-    while rest >= base {
+    while rest >= 16 {
         first -= 1;
-        into[first] = glyph((rest % base) as u8);
-        rest /= base;
+        into[first] = glyph((rest % 16) as u8);
+        rest /= 16;
     }
     first -= 1;
     into[first] = glyph(rest as u8);

@@ -9,6 +9,7 @@ mod bytes;
 mod digits;
 mod escapes;
 mod glyphs;
+mod line_buffer;
 mod numbers;
 #[cfg(test)]
 mod tests;
@@ -16,6 +17,7 @@ mod words;
 
 pub use bytes::{push_hex_bytes, push_hex_bytes_after};
 pub use escapes::{push_escaped, push_escaped_after};
+pub use line_buffer::LineBuffer;
 pub use numbers::{
     push_decimal, push_decimal_after, push_hex, push_hex_after, push_signed, push_signed_after,
     push_sixteen, push_sixteen_after,

@@ -3,16 +3,23 @@ ghost use Rattle.std.specs.Prelude.{◌≡◌};
 ghost use Rattle.dw_text.specs.Added.{Adds, labelled};
 ghost use Rattle.dw_text.specs.Numbers.{decimal, hex, sixteen, signed};
 
-use crate::digits::{MOST, fill_digits, fill_sixteen};
+use crate::digits::{fill_sixteen, write_hex};
 use crate::words::push_text;
+use itoa::write_digits;
 use std::alloc::AllocError;
 
+/// As many digits as a `u64` has in the base ten.
+const MOST_DECIMAL: usize = 20;
+/// As many digits as a `u64` has in the base sixteen.
+const MOST_HEX: usize = 16;
+
 /// Appends a number in decimal digits.
+#[tactic(auto, using(crate::proofs::Fill::few_digits))]
 pub fn push_decimal(out: &mut Vec<u8>, number: u64) -> Result<(), AllocError>
     ensures { Adds result out.old.items out.new.items (decimal number) }
 {
-    let mut digits = [0; MOST];
-    let first = fill_digits(&mut digits, 10, number);
+    let mut digits = [0; MOST_DECIMAL];
+    let first = write_digits(number, &mut digits, MOST_DECIMAL);
     out.extend_from_slice(&digits[first..])
 }
 
@@ -20,8 +27,8 @@ pub fn push_decimal(out: &mut Vec<u8>, number: u64) -> Result<(), AllocError>
 pub fn push_hex(out: &mut Vec<u8>, number: u64) -> Result<(), AllocError>
     ensures { Adds result out.old.items out.new.items (hex number) }
 {
-    let mut digits = [0; MOST];
-    let first = fill_digits(&mut digits, 16, number);
+    let mut digits = [0; MOST_HEX];
+    let first = write_hex(&mut digits, MOST_HEX, number);
     out.extend_from_slice(&digits[first..])
 }
 
@@ -29,7 +36,7 @@ pub fn push_hex(out: &mut Vec<u8>, number: u64) -> Result<(), AllocError>
 pub fn push_sixteen(out: &mut Vec<u8>, number: u64) -> Result<(), AllocError>
     ensures { Adds result out.old.items out.new.items (sixteen number) }
 {
-    let mut digits = [0; 16];
+    let mut digits = [0; MOST_HEX];
     fill_sixteen(&mut digits, number);
     out.extend_from_slice(&digits)
 }

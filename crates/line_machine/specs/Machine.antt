@@ -1,10 +1,9 @@
 -- The line machine, one step by cases of the operation: DWARF 5, sections 6.2.2 and 6.2.5.
-use Rattle.std.specs.Prelude.{ℕ, true, false, not, ◌+◌, ◌-◌, ◌*◌, ◌/◌, ◌%◌, ◌^◌, ◌<◌, Some, None}
+use Rattle.std.specs.Prelude.{ℕ, true, false, not, ◌+◌, ◌-◌, ◌*◌, ◌/◌, ◌%◌, ◌^◌, ◌<◌, Option, Some, None}
 use Rattle.std.specs.Int.{cast_unsigned, w64}
 use Rattle.dw_fields.specs.Reading.{IsAddressSize}
 use Rattle.line_machine.specs.declared.registers.Row.{Row}
 use Rattle.line_machine.specs.declared.registers.Program.{Program}
-use Rattle.line_machine.specs.declared.machine.Stepped.{Stepped}
 use Rattle.line_machine.specs.declared.operations.Operation.{Operation}
 use Rattle.line_machine.specs.declared.operations.Operation.TheVariants as ops
 
@@ -56,14 +55,14 @@ unfoldable pub special : Program → Row → ℕ → Row
 special h r a = advanced h (record r { line = ((r.line + cast_unsigned w64 h.line_base) % 2 ^ 64 + a % h.line_range) % 2 ^ 64 }) (a / h.line_range)
 
 -- No row is appended, or one is.
-abbrev pub quiet : Row → Stepped
-quiet r = record { registers = r; row = None }
+abbrev pub quiet : Row → Row × Option Row
+quiet r = (r, None)
 
-abbrev pub appended : Row → Row → Stepped
-appended r row = record { registers = r; row = Some row }
+abbrev pub appended : Row → Row → Row × Option Row
+appended r row = (r, Some row)
 
--- A step of the machine.
-unfoldable pub line_step : Program → Row → Operation → Stepped
+-- A step of the machine: the registers behind it, and the row that it appends.
+unfoldable pub line_step : Program → Row → Operation → Row × Option Row
 line_step h r ops.Copy = appended (cleared r) r
 line_step h r (ops.AdvancePc n) = quiet (advanced h r n)
 line_step h r (ops.AdvanceLine n) = quiet (record r { line = (r.line + cast_unsigned w64 n) % 2 ^ 64 })

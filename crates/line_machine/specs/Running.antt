@@ -1,19 +1,18 @@
 -- The rows of a line program: DWARF 5, section 6.2.5. Its operations are done one after another, from
 -- its first byte to its end.
-use Rattle.std.specs.Prelude.{◌≡◌, ◌<◌, ◌≤◌, ℕ, zero, suc, ◌-◌, List, [], ◌++◌, Result, Ok, Err, option_to_list}
+use Rattle.std.specs.Prelude.{◌≡◌, ◌<◌, ◌≤◌, ℕ, zero, suc, ◌-◌, List, [], ◌++◌, Option, Result, Ok, Err, option_to_list}
 use Rattle.dw_fields.specs.declared.fault_code.Fault.{Fault}
 use Rattle.dw_fields.specs.Span.{Span, at}
 use Rattle.dw_fields.specs.Reading.{Reader, ◌>>=◌}
 use Rattle.dw_fields.specs.Walk.{walk}
 use Rattle.line_machine.specs.declared.registers.Row.{Row}
 use Rattle.line_machine.specs.declared.registers.Program.{Program}
-use Rattle.line_machine.specs.declared.machine.Stepped.{Stepped}
 use Rattle.line_machine.specs.Machine.{fresh, line_step}
 use Rattle.line_machine.specs.Operations.{operation_at}
 
 -- The registers and the rows of a step.
-abbrev pub outcome : Stepped → Row × List Row
-outcome stepped = (stepped.registers, option_to_list stepped.row)
+abbrev pub outcome : Row × Option Row → Row × List Row
+outcome stepped = (stepped.0, option_to_list stepped.1)
 
 -- One operation read and done.
 unfoldable pub stepped_at : Program → List ℕ → Row → Reader (Row × List Row)

@@ -11,7 +11,7 @@ mod operations;
 mod registers;
 mod running;
 
-pub use machine::{Stepped, step};
+pub use machine::step;
 pub use operations::{Operation, read_operation};
 pub use registers::{Program, Row};
 pub use running::{rows, rows_are_those_of_the_operations};

@@ -1,154 +1,184 @@
 //! What each operation does.
 
-ghost use Rattle.std.specs.Prelude.{◌≡◌, ℕ, ◌%◌, ◌*◌, ◌^◌, ◌<◌};
+ghost use Rattle.std.specs.Prelude.{◌≡◌, ℕ, ◌/◌, ◌%◌, ◌*◌, ◌^◌, ◌<◌, true};
 ghost use Rattle.dw_fields.specs.Reading.{IsAddressSize};
-ghost use Rattle.line_machine.specs.Machine.{IsRunnable, advanced, line_step, moved, special, wrapped};
+ghost use Rattle.line_machine.specs.Machine.{IsRunnable, advanced, cleared, fresh as fresh_of, line_step, moved, special, wrapped};
 
 use crate::operations::Operation;
-use crate::registers::{Program, Row, cleared, fresh};
+use crate::registers::{Program, Row, clear, fresh};
 
-/// The registers behind an operation, and the row that it appended.
-#[derive(Clone, Copy, Debug, PartialEq, Eq)]
-pub struct Stepped {
-    pub registers: Row,
-    pub row: Option<Row>,
-}
-
-/// Does one operation (DWARF 5, section 6.2.5).
+/// Does one operation on the registers, and answers the row that it appends (DWARF 5, section 6.2.5).
+#[inline]
 #[tactic(auto, unfolding(crate::specs::Machine::line_step))]
-pub fn step(program: &Program, registers: &Row, operation: Operation) -> Stepped
+pub fn step(program: &Program, registers: &mut Row, operation: Operation) -> Option<Row>
     requires { IsRunnable program.now }
-    ensures { result ≡ line_step program.now registers.now operation }
+    ensures { (registers.new, result) ≡ line_step program.now registers.old operation }
 {
     match operation {
-        Operation::Copy => appended(cleared(registers), *registers),
-        Operation::AdvancePc(count) => quiet(advanced(program, registers, count)),
-        Operation::AdvanceLine(count) => quiet(Row {
-            line: registers.line.wrapping_add_signed(count),
-            ..*registers
-        }),
-        Operation::SetFile(file) => quiet(Row { file, ..*registers }),
-        Operation::SetColumn(column) => quiet(Row {
-            column,
-            ..*registers
-        }),
-        Operation::NegateStmt => quiet(Row {
-            stmt: !registers.stmt,
-            ..*registers
-        }),
-        Operation::SetBasicBlock => quiet(Row {
-            block: true,
-            ..*registers
-        }),
-        Operation::ConstAddPc => quiet(advanced(
-            program,
-            registers,
-            u64::from((255 - program.opcode_base) / program.line_range),
-        )),
-        Operation::FixedAdvancePc(count) => quiet(moved(program, registers, count)),
-        Operation::SetPrologueEnd => quiet(Row {
-            prologue_end: true,
-            ..*registers
-        }),
-        Operation::SetEpilogueBegin => quiet(Row {
-            epilogue_begin: true,
-            ..*registers
-        }),
-        Operation::SetIsa(isa) => quiet(Row { isa, ..*registers }),
-        Operation::EndSequence => appended(
-            fresh(program),
-            Row {
-                end: true,
-                ..*registers
-            },
-        ),
-        Operation::SetAddress(address) => quiet(Row {
-            address: wrapped(u128::from(address), program.address_size),
-            op_index: 0,
-            ..*registers
-        }),
-        Operation::SetDiscriminator(discriminator) => quiet(Row {
-            discriminator,
-            ..*registers
-        }),
-        Operation::Special(opcode) => {
-            let row = special(program, registers, opcode);
-            appended(cleared(&row), row)
+        Operation::Copy => Some(append(registers)),
+        Operation::AdvancePc(count) => {
+            advance(program, registers, count);
+            None
         }
-        Operation::Nothing => quiet(*registers),
+        Operation::AdvanceLine(count) => {
+            registers.line = registers.line.wrapping_add_signed(count);
+            None
+        }
+        Operation::SetFile(file) => {
+            registers.file = file;
+            None
+        }
+        Operation::SetColumn(column) => {
+            registers.column = column;
+            None
+        }
+        Operation::NegateStmt => {
+            registers.stmt = !registers.stmt;
+            None
+        }
+        Operation::SetBasicBlock => {
+            registers.block = true;
+            None
+        }
+        Operation::ConstAddPc => {
+            let above = (255 - program.opcode_base) / program.line_range;
+            advance(program, registers, u64::from(above));
+            None
+        }
+        Operation::FixedAdvancePc(count) => {
+            move_address(program, registers, count);
+            None
+        }
+        Operation::SetPrologueEnd => {
+            registers.prologue_end = true;
+            None
+        }
+        Operation::SetEpilogueBegin => {
+            registers.epilogue_begin = true;
+            None
+        }
+        Operation::SetIsa(isa) => {
+            registers.isa = isa;
+            None
+        }
+        Operation::EndSequence => Some(end_sequence(program, registers)),
+        Operation::SetAddress(address) => {
+            registers.address = wrapped(u128::from(address), program.address_size);
+            registers.op_index = 0;
+            None
+        }
+        Operation::SetDiscriminator(discriminator) => {
+            registers.discriminator = discriminator;
+            None
+        }
+        Operation::Special(above) => {
+            advance_special(program, registers, above);
+            Some(append(registers))
+        }
+        Operation::Nothing => None,
     }
 }
 
-fn quiet(registers: Row) -> Stepped
-    ensures { result ≡ record { registers = registers; row = None } }
+/// The row of the registers, which are cleared behind it.
+#[inline]
+fn append(registers: &mut Row) -> Row
+    ensures row { result ≡ registers.old }
+    ensures behind { registers.new ≡ cleared registers.old }
 {
-    Stepped {
-        registers,
-        row: None,
-    }
+    let row = *registers;
+    clear(registers);
+    row
 }
 
-fn appended(registers: Row, row: Row) -> Stepped
-    ensures { result ≡ record { registers = registers; row = Some row } }
+/// The last row of a sequence. The registers are those at the start of one.
+#[inline]
+fn end_sequence(program: &Program, registers: &mut Row) -> Row
+    ensures row { result ≡ record registers.old { end = true } }
+    ensures behind { registers.new ≡ fresh_of program.now }
 {
-    Stepped {
-        registers,
-        row: Some(row),
-    }
+    let row = Row {
+        end: true,
+        ..*registers
+    };
+    *registers = fresh(program);
+    row
 }
 
 /// Advances by so many operations, which may be several instructions. The sums here are unbounded:
 /// only the address is taken modulo its size.
+#[inline]
 #[tactic(auto, unfolding(crate::specs::Machine::advanced))]
-fn advanced(program: &Program, registers: &Row, count: u64) -> Row
+fn advance(program: &Program, registers: &mut Row, count: u64)
     requires size { IsAddressSize program.now.address_size }
     requires ops { 0 < program.now.max_ops }
-    ensures { result ≡ advanced program.now registers.now count }
+    ensures { registers.new ≡ advanced program.now registers.old count }
 {
     let operations = u128::from(registers.op_index) + u128::from(count);
-    let instructions = operations / u128::from(program.max_ops);
-    let address = u128::from(registers.address) + u128::from(program.min_length) * instructions;
-    Row {
-        address: wrapped(address, program.address_size),
-        op_index: (operations % u128::from(program.max_ops)) as u64,
-        ..*registers
+    let packed = pack(operations, program.max_ops);
+    let address = u128::from(registers.address)
+        + u128::from(program.min_length) * packed.instructions;
+    registers.address = wrapped(address, program.address_size);
+    registers.op_index = packed.op_index;
+}
+
+/// Operations as whole instructions, and the operations that are left of them.
+#[derive(Clone, Copy)]
+struct Packed {
+    instructions: u128,
+    op_index: u64,
+}
+
+/// Packs operations into instructions of at most so many. Most machines have one operation in each: these divide nothing.
+#[inline]
+fn pack(operations: u128, max_ops: u8) -> Packed
+    requires { 0 < max_ops }
+    ensures instructions { result.instructions ≡ operations / max_ops }
+    ensures op_index { result.op_index ≡ operations % max_ops }
+{
+    if max_ops == 1 {
+        return Packed {
+            instructions: operations,
+            op_index: 0,
+        };
+    }
+    let most = u128::from(max_ops);
+    Packed {
+        instructions: operations / most,
+        op_index: (operations % most) as u64,
     }
 }
 
 /// Moves the address by so many bytes.
+#[inline]
 #[tactic(auto, unfolding(crate::specs::Machine::moved))]
-fn moved(program: &Program, registers: &Row, count: u64) -> Row
+fn move_address(program: &Program, registers: &mut Row, count: u64)
     requires { IsAddressSize program.now.address_size }
-    ensures { result ≡ moved program.now registers.now count }
+    ensures { registers.new ≡ moved program.now registers.old count }
 {
     let address = u128::from(registers.address) + u128::from(count);
-    Row {
-        address: wrapped(address, program.address_size),
-        op_index: 0,
-        ..*registers
-    }
+    registers.address = wrapped(address, program.address_size);
+    registers.op_index = 0;
 }
 
-/// The row of a special opcode, so many above the first: both the line and the address advance.
+/// The special opcode so many above the first: both the line and the address advance.
+#[inline]
 #[tactic(auto, unfolding(crate::specs::Machine::special))]
-fn special(program: &Program, registers: &Row, above: u64) -> Row
+fn advance_special(program: &Program, registers: &mut Row, above: u64)
     requires size { IsAddressSize program.now.address_size }
     requires ops { 0 < program.now.max_ops }
     requires range { 0 < program.now.line_range }
-    ensures { result ≡ special program.now registers.now above }
+    ensures { registers.new ≡ special program.now registers.old above }
 {
     let range = u64::from(program.line_range);
     let based = registers
         .line
         .wrapping_add_signed(i64::from(program.line_base));
-    let row = Row {
-        line: based.wrapping_add(above % range),
-        ..*registers
-    };
-    advanced(program, &row, above / range)
+    registers.line = based.wrapping_add(above % range);
+    advance(program, registers, above / range);
 }
 
 /// An address of so many bytes.
+#[inline]
 #[tactic(auto, unfolding(crate::specs::Machine::wrapped))]
 fn wrapped(address: u128, size: u8) -> u64
     requires { IsAddressSize size }

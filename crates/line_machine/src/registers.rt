@@ -73,16 +73,14 @@ pub(crate) fn fresh(program: &Program) -> Row
     }
 }
 
-/// The registers behind an appended row.
+/// Clears what tells of one row alone, behind an appended row.
+#[inline]
 #[tactic(auto, unfolding(crate::specs::Machine::cleared))]
-pub(crate) fn cleared(registers: &Row) -> Row
-    ensures { result ≡ cleared registers.now }
+pub(crate) fn clear(registers: &mut Row)
+    ensures { registers.new ≡ cleared registers.old }
 {
-    Row {
-        discriminator: 0,
-        block: false,
-        prologue_end: false,
-        epilogue_begin: false,
-        ..*registers
-    }
+    registers.discriminator = 0;
+    registers.block = false;
+    registers.prologue_end = false;
+    registers.epilogue_begin = false;
 }

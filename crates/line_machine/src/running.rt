@@ -6,7 +6,7 @@ ghost use Rattle.unit_headers.specs.Refusals.{Answers};
 ghost use Rattle.line_machine.specs.Machine.{IsRunnable, fresh as fresh_of};
 ghost use Rattle.line_machine.specs.Running.{IsRun, line_rows, outcome, stepped_at};
 
-use crate::machine::{Stepped, step};
+use crate::machine::step;
 use crate::operations::read_operation;
 use crate::registers::{Program, Row, fresh};
 use dw_fields::{Cut, Fault};
@@ -42,12 +42,11 @@ pub fn rows(
         if cut.left() == 0 {
             return Ok(rows);
         }
-        let stepped = match stepped(&mut cut, program, lengths, &registers) {
-            Ok(stepped) => stepped,
+        let row = match stepped(&mut cut, program, lengths, &mut registers) {
+            Ok(row) => row,
             Err(fault) => return Err(UnitRefusal::Refused(fault)),
         };
-        registers = stepped.registers;
-        match keep(&mut rows, stepped.row) {
+        match keep(&mut rows, row) {
             Ok(()) => {}
             Err(_) => return Err(UnitRefusal::OutOfMemory),
         }
@@ -63,16 +62,17 @@ fn room(alloc: Global, bytes: u64) -> Result<Vec<Row>, AllocError>
 }
 
 /// Reads an operation and does it.
+#[inline]
 #[tactic(auto, unfolding(crate::specs::Running::stepped_at))]
 fn stepped(
     cut: &mut Cut<'_>,
     program: &Program,
     lengths: &[u8],
-    registers: &Row,
-) -> Result<Stepped, Fault>
+    registers: &mut Row,
+) -> Result<Option<Row>, Fault>
     requires runnable { IsRunnable program.now }
     requires known { program.now.opcode_base ≤ length lengths.now + 1 }
-    ensures field { Reads outcome result (stepped_at program.now lengths.now registers.now) cut.old cut.new }
+    ensures field { Reads (λ row. outcome (registers.new, row)) result (stepped_at program.now lengths.now registers.old) cut.old cut.new }
     ensures moves { OnOk result (Moves 1 cut.old cut.new) }
 {
     match read_operation(cut, program, lengths) {
@@ -81,6 +81,7 @@ fn stepped(
     }
 }
 
+#[inline]
 fn keep(rows: &mut Vec<Row>, row: Option<Row>) -> Result<(), AllocError>
     ensures { OnOk result (rows.new.items ≡ rows.old.items ++ option_to_list row) }
 {

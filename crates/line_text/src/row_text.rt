@@ -1,10 +1,10 @@
 //! The line of a row.
 
-ghost use Rattle.std.specs.Prelude.{◌≡◌};
+ghost use Rattle.std.specs.Prelude.{◌≡◌, ◌+◌, ◌≤◌, [], ◌++◌, length};
 ghost use Rattle.dw_text.specs.Added.{Adds};
 ghost use Rattle.line_text.specs.Rows.{counted_text, flag_text, row_edges, row_flags, row_numbers, row_place, row_text, rows_text};
 
-use dw_text::{push_decimal_after, push_hex_after, push_text, push_text_after};
+use dw_text::{LineBuffer, push_text};
 use line_machine::Row;
 use std::alloc::AllocError;
 
@@ -12,8 +12,9 @@ use std::alloc::AllocError;
 pub(crate) fn push_rows(out: &mut Vec<u8>, rows: &[Row]) -> Result<(), AllocError>
     ensures { Adds result out.old.items out.new.items (rows_text rows.now) }
 {
+    let mut line = LineBuffer::new();
     'rows: for row in rows {
-        match push_row(out, row) {
+        match push_row(out, &mut line, row) {
             Ok(()) => {}
             Err(error) => return Err(error),
         }
@@ -21,76 +22,92 @@ pub(crate) fn push_rows(out: &mut Vec<u8>, rows: &[Row]) -> Result<(), AllocErro
     Ok(())
 }
 
-#[tactic(auto, unfolding(crate::specs::Rows::row_text))]
-fn push_row(out: &mut Vec<u8>, row: &Row) -> Result<(), AllocError>
+fn push_row(out: &mut Vec<u8>, line: &mut LineBuffer, row: &Row) -> Result<(), AllocError>
     ensures { Adds result out.old.items out.new.items (row_text row.now) }
 {
-    push_place(out, row)?;
-    push_flags(out, row)?;
-    push_numbers(out, row)?;
-    push_text_after(out, b"\n", b"")?;
-    Ok(())
+    line.clear();
+    put_row(line, row);
+    push_text(out, line.text())
+}
+
+/// Puts the pieces of a row's line, from the last to the first.
+#[tactic(auto, unfolding(crate::specs::Rows::row_text, dw_text::specs::Added::labelled))]
+fn put_row(line: &mut LineBuffer, row: &Row)
+    requires { line.old ≡ [] }
+    ensures { line.new ≡ row_text row.now }
+{
+    line.put_text(b"\n");
+    put_numbers(line, row);
+    put_flags(line, row);
+    put_place(line, row);
 }
 
 #[tactic(auto, unfolding(crate::specs::Rows::row_place))]
-fn push_place(out: &mut Vec<u8>, row: &Row) -> Result<(), AllocError>
-    ensures { Adds result out.old.items out.new.items (row_place row.now) }
+fn put_place(line: &mut LineBuffer, row: &Row)
+    requires { length line.old ≤ 128 }
+    ensures { line.new ≡ row_place row.now ++ line.old }
 {
-    push_hex_after(out, b"0x", row.address)?;
-    push_decimal_after(out, b" ", row.file)?;
-    push_decimal_after(out, b" ", row.line)?;
-    push_decimal_after(out, b" ", row.column)?;
-    Ok(())
+    line.put_decimal_after(b" ", row.column);
+    line.put_decimal_after(b" ", row.line);
+    line.put_decimal_after(b" ", row.file);
+    line.put_hex_after(b"0x", row.address);
 }
 
 #[tactic(auto, unfolding(crate::specs::Rows::row_flags))]
-fn push_flags(out: &mut Vec<u8>, row: &Row) -> Result<(), AllocError>
-    ensures { Adds result out.old.items out.new.items (row_flags row.now) }
+fn put_flags(line: &mut LineBuffer, row: &Row)
+    requires { length line.old ≤ 85 }
+    ensures text { line.new ≡ row_flags row.now ++ line.old }
+    ensures size { length line.new ≤ length line.old + 43 }
 {
-    push_flag(out, b" stmt", row.stmt)?;
-    push_flag(out, b" block", row.block)?;
-    push_edges(out, row)?;
-    Ok(())
+    put_edges(line, row);
+    put_flag(line, b" block", row.block);
+    put_flag(line, b" stmt", row.stmt);
 }
 
 #[tactic(auto, unfolding(crate::specs::Rows::row_edges))]
-fn push_edges(out: &mut Vec<u8>, row: &Row) -> Result<(), AllocError>
-    ensures { Adds result out.old.items out.new.items (row_edges row.now) }
+fn put_edges(line: &mut LineBuffer, row: &Row)
+    requires { length line.old ≤ 85 }
+    ensures text { line.new ≡ row_edges row.now ++ line.old }
+    ensures size { length line.new ≤ length line.old + 32 }
 {
-    push_flag(out, b" prologue_end", row.prologue_end)?;
-    push_flag(out, b" epilogue_begin", row.epilogue_begin)?;
-    push_flag(out, b" end", row.end)?;
-    Ok(())
+    put_flag(line, b" end", row.end);
+    put_flag(line, b" epilogue_begin", row.epilogue_begin);
+    put_flag(line, b" prologue_end", row.prologue_end);
 }
 
 #[tactic(auto, unfolding(crate::specs::Rows::row_numbers))]
-fn push_numbers(out: &mut Vec<u8>, row: &Row) -> Result<(), AllocError>
-    ensures { Adds result out.old.items out.new.items (row_numbers row.now) }
+fn put_numbers(line: &mut LineBuffer, row: &Row)
+    requires { length line.old ≤ 1 }
+    ensures text { line.new ≡ row_numbers row.now ++ line.old }
+    ensures size { length line.new ≤ length line.old + 84 }
 {
-    push_counted(out, b" op ", row.op_index)?;
-    push_counted(out, b" isa ", row.isa)?;
-    push_counted(out, b" discriminator ", row.discriminator)?;
-    Ok(())
+    put_counted(line, b" discriminator ", row.discriminator);
+    put_counted(line, b" isa ", row.isa);
+    put_counted(line, b" op ", row.op_index);
 }
 
-/// Appends the word where the flag holds.
-#[inline]
+/// Puts the word where the flag holds.
+#[inline(always)]
 #[tactic(auto, unfolding(crate::specs::Rows::flag_text))]
-fn push_flag(out: &mut Vec<u8>, word: &[u8], flag: bool) -> Result<(), AllocError>
-    ensures { Adds result out.old.items out.new.items (flag_text word.now flag) }
+fn put_flag(line: &mut LineBuffer, word: &[u8], flag: bool)
+    requires { length line.old + length word.now ≤ 256 }
+    ensures text { line.new ≡ flag_text word.now flag ++ line.old }
+    ensures size { length line.new ≤ length line.old + length word.now }
 {
-    if flag { push_text(out, word) } else { Ok(()) }
+    if flag {
+        line.put_text(word);
+    }
 }
 
-/// Appends the word and the number where the number isn't 0.
-#[inline]
+/// Puts the word and the number where the number isn't 0.
+#[inline(always)]
 #[tactic(auto, unfolding(crate::specs::Rows::counted_text))]
-fn push_counted(out: &mut Vec<u8>, word: &[u8], number: u64) -> Result<(), AllocError>
-    ensures { Adds result out.old.items out.new.items (counted_text word.now number) }
+fn put_counted(line: &mut LineBuffer, word: &[u8], number: u64)
+    requires { length line.old + length word.now + 20 ≤ 256 }
+    ensures text { line.new ≡ counted_text word.now number ++ line.old }
+    ensures size { length line.new ≤ length line.old + length word.now + 20 }
 {
-    if number == 0 {
-        Ok(())
-    } else {
-        push_decimal_after(out, word, number)
+    if number != 0 {
+        line.put_decimal_after(word, number);
     }
 }

@@ -18,8 +18,8 @@ pub program-preserved : goal.program-preserved
 program-preserved c = record {
   ends = ap (λ (s : Span). s.end) c.in-Ok-stepped.ensures.field.1 ∙ c.program.invariant.ends;
   turns = c.program.invariant.turns;
-  walk = rows_next c.args.program.now c.args.lengths.now (c.left-left.result - c.program._turn) (c.left-left.result - (c.program._turn + 1)) c.program.registers c.in-Ok-stepped.stepped.registers
-      c.program.cut c.stepped.new.cut c.program.rows.items c.keep.new.rows.items (option_to_list c.in-Ok-stepped.stepped.row) _ (omega arith) (omega arith)
+  walk = rows_next c.args.program.now c.args.lengths.now (c.left-left.result - c.program._turn) (c.left-left.result - (c.program._turn + 1)) c.program.registers c.stepped.new.registers
+      c.program.cut c.stepped.new.cut c.program.rows.items c.keep.new.rows.items (option_to_list c.in-Ok-stepped.row) _ (omega arith) (omega arith)
       c.in-Ok-stepped.ensures.field.0 c.in-Ok-stepped.ensures.field.1 c.in-Ok-keep.ensures c.program.invariant.walk;
 }
 

@@ -1,10 +1,8 @@
 -- The cell in which the walk of a key begins.
-use Rattle.std.proofs.Common.{◌≡◌, ◌≤◌, ◌<◌, ℕ, sym, ap, subst, ◌∙◌, arith, refl}
-use Rattle.map_core.specs.declared.cell.Cell.{Cell}
+use Rattle.std.proofs.Common.{◌≡◌, ◌≤◌, ◌<◌, ℕ, sym, subst, ◌∙◌, arith, refl}
 use Rattle.map_core.specs.declared.layout.Layout.{Layout}
 use Rattle.map_core.specs.Sizes.{cells_of}
-use Rattle.map_core.specs.Places.{lowest, home, spot, Within, IsCell}
-use Rattle.map_core.specs.Machine.{Reaches}
+use Rattle.map_core.specs.Places.{home, IsCell}
 use Rattle.map_core.specs.Passes.{cell}
 use Rattle.map_core.proofs.SizeLemmas.{last_small, cells_pos}
 use Rattle.map_core.proofs.PlaceLemmas.{last_within}

@@ -1,5 +1,5 @@
 -- What each step call leaves of the states in which a test has a pass.
-use Rattle.std.proofs.Common.{◌≡◌, ◌≢◌, ◌⊎◌, ℕ, suc, ◌+◌, ◌<◌, true, List, [], ◌∷◌, ◌++◌, length, Option, Some, None, refl, sym, ap, subst, ◌∙◌, inl, inr, arith}
+use Rattle.std.proofs.Common.{◌≡◌, ◌≢◌, ℕ, true, List, [], ◌∷◌, ◌++◌, length, None, refl, sym, ap, subst, ◌∙◌, inl, inr, arith}
 use Rattle.map_core.specs.declared.cell.Cell.{Cell}
 use Rattle.map_core.specs.declared.entry.Entry.{Entry}
 use Rattle.map_core.specs.declared.layout.Layout.{Layout}
@@ -7,14 +7,14 @@ use Rattle.map_core.specs.declared.view.View.{View}
 use Rattle.map_core.specs.History.{is_in}
 use Rattle.map_core.specs.Places.{key_place}
 use Rattle.map_core.specs.Machine.{Reaches}
-use Rattle.map_core.specs.Passes.{look, cell, AtRest, Told}
+use Rattle.map_core.specs.Passes.{look, Told}
 use Rattle.map_core.specs.Knowing.{first_view, halved, newcomer, rest_of}
 use Rattle.map_core.proofs.TurnLemmas.{drop_own}
 use Rattle.map_cells.specs.Seen.{CellsView, PassView, IsOf}
 use Rattle.map_cells.specs.Steps.{ClosedTo, SettledTo, KeyTried, ValueTried, CountRaised}
 use Rattle.map_cells.specs.Walks.{Walks}
 use Rattle.map_cells.specs.Puts.{PutsNew}
-use Rattle.map_cells.specs.Passing.{IsSplit, IsJoined}
+use Rattle.map_cells.specs.Passing.{IsJoined}
 use Rattle.map_cells.proofs.WalkLemmas.{closed_here, settled_closed}
 use Rattle.share_map.proofs.PointLemmas.{last_current}
 use Rattle.table_tests.specs.States.{Idle, SawKey, Owes, IsHome}

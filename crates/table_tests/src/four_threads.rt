@@ -21,8 +21,8 @@ struct Answers {
     values: [u64; EACH],
 }
 
-// The worker's keys begin here: 1, 11, 21, 31. The four of them insert the keys 1 to 100.
-fn first_key(worker: u64) -> u64
+// The number of a worker's first key: 1, 11, 21, 31. The four of them insert the keys of number 1 to 100.
+fn first_number(worker: u64) -> u64
     requires { worker < 4 }
     ensures above { 0 < result }
     ensures below { result ≤ 31 }
@@ -30,8 +30,26 @@ fn first_key(worker: u64) -> u64
     10 * worker + 1
 }
 
-// Inserts the keys of a worker once all four threads run. The value is the key and 1000 times the worker's number,
-// counted from 1.
+// The key of a number. Each two keys in a row have the same home or homes next to one another.
+fn key_of(number: u64) -> u64
+    requires within { (1 ≤ number) × (number ≤ 100) }
+    ensures above { 0 < result }
+    ensures below { result ≤ 23300 }
+{
+    233 * number
+}
+
+// What a worker offers for a key.
+fn offer_of(worker: u64, key: u64) -> u64
+    requires worker { worker < 4 }
+    requires key { key ≤ 23300 }
+    ensures above { 0 < result }
+    ensures below { result ≤ 423300 }
+{
+    100000 * (worker + 1) + key
+}
+
+// Inserts the keys of a worker once all four threads run.
 fn offered(
     table: &Table<AnyPair>,
     arrived: &AtomicU64,
@@ -44,12 +62,12 @@ fn offered(
     ensures of { IsOf table.now result.pass }
     ensures rest { AtRest result.pass.knows }
 {
-    let first = first_key(worker);
+    let first = first_number(worker);
     let mut values = [0; EACH];
     meet(arrived, 4);
     for i in 0..EACH {
-        let key = first + i as u64;
-        let offer = 1000 * (worker + 1) + key;
+        let key = key_of(first + i as u64);
+        let offer = offer_of(worker, key);
         values[i] = match table.insert(&mut pass, key, offer) {
             Ok(Kept::Placed) => offer,
             Ok(Kept::Found(value)) => value,
@@ -140,14 +158,15 @@ fn gathered<R: Abort>(
     values
 }
 
-// Whether some worker offered this value for the key.
-fn is_offer(key: u64, value: u64) -> bool
-    requires { key ≤ 100 }
+// Whether some worker offered this value for the key of this number.
+fn is_offer(number: u64, value: u64) -> bool
+    requires { (1 ≤ number) × (number ≤ 100) }
 {
+    let key = key_of(number);
     for worker in 0..4 {
-        let first = first_key(worker);
-        let inserts = first <= key && key < first + EACH as u64;
-        if inserts && value == 1000 * (worker + 1) + key {
+        let first = first_number(worker);
+        let inserts = first <= number && number < first + EACH as u64;
+        if inserts && value == offer_of(worker, key) {
             return true;
         }
     }
@@ -168,11 +187,12 @@ fn agrees<R: Abort>(
     ensures of { IsOf table.now pass.new }
     ensures rest { AtRest pass.new.knows }
 {
-    let first = first_key(worker);
+    let first = first_number(worker);
     for i in 0..EACH {
-        let key = first + i as u64;
+        let number = first + i as u64;
+        let key = key_of(number);
         assert_eq!(rt; table.find(pass, key), Some(values[i]), "key {key}");
-        assert!(rt; is_offer(key, values[i]), "key {key}");
+        assert!(rt; is_offer(number, values[i]), "key {key}");
     }
 }
 

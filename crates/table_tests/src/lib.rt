@@ -1,7 +1,9 @@
 //! Tests of the shared table, by the calls of `map_cells` and `share_map`.
 //!
-//! The clauses of these calls say what each answers. The tests show what no clause can say: that memory is had, that
-//! the answers are those of a plain map on one thread, and that threads which put the same keys in agree.
+//! The clauses of these calls say what each answers. The tests show what no clause can: that a table is made where
+//! memory is ample, that the answers on one thread are those of a plain map, and that threads which put the same keys
+//! in agree. A test is proved safe like any function, and what it needs of a pass from step to step stands in
+//! `specs/States.antt`.
 #![tactic(auto)]
 
 #[cfg(test)]

@@ -12,6 +12,8 @@ use std::test::Fail;
 const CAPACITY: u64 = 64;
 
 const KEYS: u64 = 90;
+// Keys of this distance have homes next to one another, so that walks go past other keys and wrap.
+const DISTANCE: u64 = 89;
 
 // The next number of a linear congruential generator modulo 2^64.
 fn next(seed: u64) -> u64 {
@@ -74,7 +76,7 @@ fn calls_agree<R: Abort>(
     let mut seed = 20240229;
     for call in 0..2000 {
         seed = next(seed);
-        let key = (seed >> 33) % KEYS + 1;
+        let key = (seed >> 33) % KEYS * DISTANCE + 1;
         if (seed >> 20) % 2 == 0 {
             let value = (seed >> 40) + 1;
             let wanted = plain_insert(&mut pairs, key, value)?;

@@ -1,4 +1,7 @@
 //! Two passes in two threads that claim the same cells for the same keys and publish different values in them.
+//!
+//! Both threads borrow the cells, and each owns its pass: `thread::join` takes such closures only where `Cells` is
+//! `Sync` and `Pass` is `Send`.
 ghost use Rattle.std.specs.Prelude.{◌≡◌, ◌≤◌, ◌<◌, IfOk, IsTrue, false};
 ghost use Rattle.map_core.specs.Machine.{IsWord};
 ghost use Rattle.table_tests.specs.States.{IsHome, Idle, SawKey};

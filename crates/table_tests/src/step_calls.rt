@@ -16,6 +16,9 @@ const HOME_OF_5: u64 = 11;
 
 const SAME_HOME: u64 = 149;
 
+// Two keys whose home is the last of the 128 cells.
+const LAST_HOME: [u64; 2] = [144, 288];
+
 #[test]
 fn sizes_are_the_least_that_suffice(rt: HostRuntime) {
     // capacity, passes, the last generation, its cells: at least four thirds of capacity and passes
@@ -142,6 +145,20 @@ fn walks_go_past_other_keys(rt: HostRuntime) -> Result<(), Fail> {
     Ok(())
 }
 
+#[test]
+fn a_walk_goes_on_at_the_first_cell(rt: HostRuntime) -> Result<(), Fail> {
+    let (cells, mut pass) = small_cells(rt.alloc())?;
+    let [one, other] = LAST_HOME;
+    assert_eq!(rt; home_cell(&cells, one).index, 127);
+    assert_eq!(rt; home_cell(&cells, other).index, 127);
+    assert_eq!(rt; put(&cells, &mut pass, one, 7), Ok(Kept::Placed));
+    assert_eq!(rt; sought(&cells, &mut pass, other), None);
+    assert_eq!(rt; put(&cells, &mut pass, other, 8), Ok(Kept::Placed));
+    assert_eq!(rt; sought(&cells, &mut pass, other), Some(8));
+    assert_eq!(rt; sought(&cells, &mut pass, one), Some(7));
+    Ok(())
+}
+
 // Puts the keys 1 to 128, each with 1000 more than itself.
 fn fill<R: Abort>(rt: &R, cells: &Cells<AnyPair>, pass: &mut Pass<AnyPair>)
     requires { Idle cells.now pass.old }
@@ -156,12 +173,23 @@ fn fill<R: Abort>(rt: &R, cells: &Cells<AnyPair>, pass: &mut Pass<AnyPair>)
     }
 }
 
+// The keys 1 to 128 have their values.
+fn finds_all<R: Abort>(rt: &R, cells: &Cells<AnyPair>, pass: &mut Pass<AnyPair>)
+    requires { Idle cells.now pass.old }
+    ensures { Idle cells.now pass.new }
+{
+    for key in 1..129 {
+        assert_eq!(rt; sought(cells, pass, key), Some(1000 + key), "key {key}");
+    }
+}
+
 #[test]
 fn a_walk_through_all_cells_finds_no_room(rt: HostRuntime) -> Result<(), Fail> {
     let (cells, mut pass) = small_cells(rt.alloc())?;
     fill(&rt, &cells, &mut pass);
     assert_eq!(rt; put(&cells, &mut pass, 129, 1), Err(Full));
     assert_eq!(rt; sought(&cells, &mut pass, 129), None);
+    finds_all(&rt, &cells, &mut pass);
     assert_eq!(rt; put(&cells, &mut pass, 128, 1), Ok(Kept::Found(1128)));
     assert_eq!(rt; pass.placed(), 128);
     assert_eq!(rt; count_in(&cells, &mut pass), 128);

@@ -1,4 +1,4 @@
-use Rattle.std.proofs.Common.{◌≡◌, ℕ, sym, subst, ◌∙◌}
+use Rattle.std.proofs.Common.{ℕ, sym, subst, ◌∙◌}
 use Rattle.table_tests.specs.States.{SawKey}
 use Rattle.table_tests.proofs.StateLemmas.{reaches_of, settled_of, claim_won, claim_lost, claim_met}
 use Rattle.table_tests.proofs.steps.claimed.Goals as goal

@@ -1,5 +1,4 @@
-use Rattle.std.proofs.Common.{◌≤◌, ℕ, subst}
-use Rattle.map_core.specs.declared.cell.Cell.{Cell}
+use Rattle.std.proofs.Common.{subst}
 use Rattle.map_core.specs.declared.layout.Layout.{Layout}
 use Rattle.map_core.specs.Passes.{cell}
 use Rattle.table_tests.specs.States.{IsHome}

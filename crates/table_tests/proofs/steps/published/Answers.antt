@@ -1,4 +1,4 @@
-use Rattle.std.proofs.Common.{◌≡◌, ℕ, sym, ◌∙◌, inr}
+use Rattle.std.proofs.Common.{sym, ◌∙◌, inr}
 use Rattle.table_tests.proofs.StateLemmas.{closed_of, publish_won, publish_lost}
 use Rattle.table_tests.proofs.steps.published.Goals as goal
 

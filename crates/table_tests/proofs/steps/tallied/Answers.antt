@@ -1,4 +1,4 @@
-use Rattle.std.proofs.Common.{◌≡◌, ◌<◌, ℕ, arith}
+use Rattle.std.proofs.Common.{arith}
 use Rattle.table_tests.proofs.StateLemmas.{counted_one}
 use Rattle.table_tests.proofs.steps.tallied.Goals as goal
 

@@ -17,5 +17,10 @@ put_text-requires c =
 pub returns-clause-size : goal.returns-clause-size
 returns-clause-size c =
     let few = few_digits c.args.number c.ranges.number.fits in
-    omega (arith, ap length c.self.view_is, ap length c.write_digits-self-inside.ensures.written, length-append (decimal c.args.number) (drop c.self.inside.first c.self.inside.bytes),
-    ap length c.put_text.ensures ∙ length-append c.args.word.now (drop c.write_digits-self-inside.result c.write_digits-self-inside.new.buf))
+    omega (
+      arith,
+      ap length c.self.view_is,
+      ap length c.write_digits-self-inside.ensures.written,
+      length-append (decimal c.args.number) (drop c.self.inside.first c.self.inside.bytes),
+      ap length c.put_text.ensures ∙ length-append c.args.word.now (drop c.write_digits-self-inside.result c.write_digits-self-inside.new.buf),
+    )

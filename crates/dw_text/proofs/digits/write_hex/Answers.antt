@@ -1,4 +1,4 @@
-use Rattle.std.proofs.Common.{◌≡◌, ℕ, ◌+◌, ◌-◌, ◌/◌, ◌<◌, ◌∷◌, sym, ap, ◌∙◌, drop, set, length-set, arith}
+use Rattle.std.proofs.Common.{◌≡◌, ◌+◌, ◌-◌, ◌/◌, ◌<◌, ◌∷◌, sym, ap, ◌∙◌, drop, set, length-set, arith}
 use Rattle.dw_text.proofs.Fill.{onto, onto_begin, onto_more, onto_last, put_before, quotient_small, left_above}
 use Rattle.dw_text.proofs.digits.write_hex.Goals as goal
 

@@ -198,7 +198,7 @@ fn agrees<R: Abort>(
 
 #[test]
 fn four_threads_agree_on_the_value_of_each_key(rt: HostRuntime) -> Result<(), Fail> {
-    for _ in 0..50 {
+    for _ in 0..500 {
         let (table, mut a) = Table::new(rt.alloc(), 100, 4, &AnyPair)?;
         assert!(rt; a.spare() == 3);
         let b = table.split(&mut a);

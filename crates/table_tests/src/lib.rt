@@ -17,6 +17,8 @@ mod plain_map;
 #[cfg(test)]
 mod race;
 #[cfg(test)]
+mod shared_cells;
+#[cfg(test)]
 mod start;
 #[cfg(test)]
 mod step_calls;

@@ -123,7 +123,7 @@ fn agreed<R: Abort>(
 
 #[test]
 fn two_threads_agree_on_the_value_of_each_key(rt: HostRuntime) -> Result<(), Fail> {
-    for _ in 0..50 {
+    for _ in 0..500 {
         let (cells, mut a) = small_cells(rt.alloc())?;
         assert!(rt; a.spare() == 1);
         let b = parted(&cells, &mut a);

@@ -11,7 +11,7 @@ use std::sync::atomic::AtomicU64;
 use std::test::Fail;
 use std::thread::{Threads, join};
 
-// How many cells are fought for.
+// For how many cells each thread has a key.
 const CELLS: u64 = 28;
 
 // The key of one side for a cell: 233 times an odd number, and 233 times the next number. Of 256 cells both have the

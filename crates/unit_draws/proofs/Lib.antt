@@ -1,0 +1,5 @@
+pub mod Sums
+pub mod Occurrences
+pub mod Keeping
+pub mod Steps
+pub mod SeatSteps

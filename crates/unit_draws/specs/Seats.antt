@@ -1,0 +1,103 @@
+-- What contracts see of draws and of their seats, and what a call makes of a seat.
+use Rattle.std.specs.Prelude.{◌≡◌, ℕ, ◌-◌, ◌<◌, List, [], ◌∷◌, ◌++◌, length, count_by, ◌==◌}
+use Rattle.atomic_table.specs.Seated.{TableId}
+use Rattle.atomic_table.specs.Table.{Me}
+use Rattle.unit_draws.specs.declared.view.DrawSizes.{DrawSizes}
+use Rattle.unit_draws.specs.declared.view.DrawView.{DrawView}
+use Rattle.unit_draws.specs.Windows.{IsUnitOfWindow}
+
+-- which words, how many units they count, and how many seats there may be
+pub record DrawsView : Type 0 where
+  pub table : TableId
+  pub sizes : DrawSizes
+
+-- whose seat it is, and what it knows
+pub record SeatView : Type 0 where
+  pub table : TableId
+  pub knows : DrawView
+
+-- the seat belongs to these draws
+pub record IsSeatOf (draws : DrawsView) (seat : SeatView) : Type 0 where
+  pub table : seat.table ≡ draws.table
+  pub units : seat.knows.units ≡ draws.sizes.units
+  pub seats : seat.knows.seats ≡ draws.sizes.seats
+
+-- how often a number stands in a list
+unfoldable pub occurrences : ℕ → List ℕ → ℕ
+occurrences n ns = count_by (λ m. m == n) ns
+
+-- # Seats as calls leave them
+
+abbrev pub first_seat : DrawSizes → DrawView
+first_seat sizes =
+    record {
+      units = sizes.units;
+      seats = sizes.seats;
+      number = 0;
+      numbers = 0 ∷ [];
+      spare = sizes.seats - 1;
+      drawn = [];
+      ended = [];
+    }
+
+-- the seat that another was split off
+abbrev pub with_less_spare : DrawView → DrawView
+with_less_spare v = record v { spare = v.spare - 1 }
+
+-- the new seat: its number is the lowest that no seat has
+abbrev pub seat_split_off : DrawView → DrawView
+seat_split_off v =
+    record {
+      units = v.units;
+      seats = v.seats;
+      number = v.seats - v.spare;
+      numbers = (v.seats - v.spare) ∷ [];
+      spare = 0;
+      drawn = [];
+      ended = [];
+    }
+
+-- the seat that drew this unit
+abbrev pub with_unit : DrawView → ℕ → DrawView
+with_unit v unit = record v { drawn = v.drawn ++ unit ∷ [] }
+
+-- the seat that saw this window end
+abbrev pub with_ended : DrawView → ℕ → DrawView
+with_ended v window = record v { ended = v.ended ++ window ∷ [] }
+
+-- the seat that took another in
+abbrev pub with_seat : DrawView → DrawView → DrawView
+with_seat v u =
+    record v {
+      numbers = v.numbers ++ u.numbers;
+      drawn = v.drawn ++ u.drawn;
+      ended = v.ended ++ u.ended;
+    }
+
+-- what is left of a seat that another took in
+abbrev pub empty_seat : DrawView
+empty_seat = record { units = 0; seats = 0; number = 0; numbers = []; spare = 0; drawn = []; ended = [] }
+
+-- # What a seat knows of all others
+
+-- the first seat, into which all other seats that were made are joined
+pub record HasEverySeat (v : DrawView) : Type 0 where
+  pub first : v.number ≡ 0
+  pub all : length v.numbers ≡ v.seats - v.spare
+
+-- each unit of the window was drawn, and none twice
+abbrev pub HasDrawnWindow : DrawView → ℕ → Type 0
+HasDrawnWindow v window = (u : ℕ) → IsUnitOfWindow v.units window u → occurrences u v.drawn ≡ 1
+
+-- the unit is above all that the seat drew of the window
+abbrev pub IsAboveDrawn : DrawView → ℕ → ℕ → Type 0
+IsAboveDrawn v window unit = (x : ℕ) → IsUnitOfWindow v.units window x → 0 < occurrences x v.drawn → x < unit
+
+-- what is true of a seat by itself: it holds no slot of the table, has its number and its spare ones written down,
+-- and wasn't joined into another
+pub record SeatHolds (me : Me (Unit {0}) DrawView) (written_number written_spare : ℕ) : Type 0 where
+  pub slots : me.1 ≡ []
+  pub number : written_number ≡ me.0.number
+  pub spare : written_spare ≡ me.0.spare
+  pub some : 0 < length me.0.numbers
+  pub less : me.0.spare < me.0.seats

@@ -10,10 +10,11 @@ use Rattle.atomic_table.specs.Table.{State}
 use Rattle.unit_draws.specs.declared.view.DrawSizes.{DrawSizes}
 use Rattle.unit_draws.specs.declared.view.DrawView.{DrawView}
 use Rattle.unit_draws.specs.Windows.{window_length}
-use Rattle.unit_draws.specs.Seats.{occurrences, HasEverySeat, HasDrawnWindow, IsAboveDrawn}
+use Rattle.unit_draws.specs.Seats.{occurrences, HasEverySeat, HasDrawnWindow, with_unit, places_ahead}
 use Rattle.unit_draws.specs.Rule.{IsSeatAt, IsJoinedAway, HasFirstSeat, IsOneWhere, IsPassed, ended_seats, DrawRuleHolds}
 use Rattle.unit_draws.proofs.Sums.{below_length, sum_set, part_most, sums_most, sum_alone}
-use Rattle.unit_draws.proofs.Occurrences.{occurrences-nil}
+use Rattle.unit_draws.proofs.Occurrences.{occurrences-nil, window_of_unit}
+use Rattle.unit_draws.proofs.Places.{behind_most, behind_last}
 
 -- the same count, where a fact stays as it was
 pub one_same : (P Q : Type 0) (n m : ℕ) → (P → Q) → (Q → P) → n ≡ m → IsOneWhere P n → IsOneWhere Q m
@@ -87,14 +88,16 @@ module _ (sizes : DrawSizes) (s : State (Unit {0}) DrawView) (holds : DrawRuleHo
         (λ not. let none = (holds.drawn u).none (λ p. not p.counted) in omega arith)
 
     -- the units of the window that the seat drew lie below the one that comes
-    pub drawn_below : (w n : ℕ) → slice_index s.words w ≡ n → IsAboveDrawn v w (256 * w + n)
-    drawn_below w n here x in_window drawn =
-        let from = in_window.from in
-        let below = in_window.below in
-        let window : x / 256 ≡ w = omega arith in
+    drawn_below : (w n : ℕ) → slice_index s.words w ≡ n → (x : ℕ) → x / 256 ≡ w → 0 < occurrences x v.drawn → x < 256 * w + n
+    drawn_below w n here x window drawn =
         dite (dec_le (256 * w + n) x)
         (λ above. absurd (drawn_passed x drawn (λ p. let passed : x % 256 < slice_index s.words w = subst (λ (k : ℕ). x % 256 < slice_index s.words k) window p.passed in omega arith)))
         (λ not. omega arith)
+
+    pub ahead_fewer : (w n : ℕ) → slice_index s.words w ≡ n → n < 256 → places_ahead w (with_unit v (256 * w + n)) < places_ahead w v
+    ahead_fewer w n here small =
+        let before = behind_most w (256 * w + n) v.drawn (omega arith) (drawn_below w n here) in
+        let after = behind_last w (256 * w + n) v.drawn (window_of_unit w n small) in omega arith
 
     -- the first seat with all numbers has drawn the units of a window whose word has passed them
     pub drawn_whole : HasEverySeat v → (w : ℕ) → window_length sizes.units w ≤ slice_index s.words w → HasDrawnWindow v w

@@ -14,7 +14,7 @@ use Rattle.unit_draws.specs.Seats.{occurrences, with_unit, with_ended}
 use Rattle.unit_draws.specs.Rule.{IsOneWhere, IsPassed, ended_seats, DrawRuleHolds, DrawsUnit, EndsWindow, DrawsNumber, LearnsOfDrawn}
 use Rattle.unit_draws.proofs.Sums.{sum_set}
 use Rattle.unit_draws.proofs.Occurrences.{occurrences-append, occurrences_same, occurrences_other, window_of_unit, number_of_unit}
-use Rattle.unit_draws.proofs.Keeping.{one_same, ended_never, ended_now, word_now, word_else, word_grows, word_small, seat_now, never_drawn, drawn_once, drawn_below, drawn_whole, sum_stays, step_keeps}
+use Rattle.unit_draws.proofs.Keeping.{one_same, ended_never, ended_now, word_now, word_else, word_grows, word_small, seat_now, never_drawn, drawn_once, ahead_fewer, drawn_whole, sum_stays, step_keeps}
 
 module _ (sizes : DrawSizes) (s : State (Unit {0}) DrawView) (holds : DrawRuleHolds sizes s) (id : ℕ) (v : DrawView) (at : get_elem? s.views id ≡ some v) (some_number : 0 < length v.numbers) (w n : ℕ) (low : w < length s.words) (here : slice_index s.words w ≡ n) where
   -- the number was below the window's length: its unit is the seat's
@@ -81,7 +81,7 @@ module _ (sizes : DrawSizes) (s : State (Unit {0}) DrawView) (holds : DrawRuleHo
     draws_unit =
         record {
           fresh = never_drawn sizes s holds id v at some_number (256 * w + n) not_passed;
-          above = drawn_below sizes s holds id v at some_number w n here;
+          fewer = ahead_fewer sizes s holds id v at some_number w n here small;
           drawn = refl;
         }
 

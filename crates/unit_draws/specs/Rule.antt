@@ -5,9 +5,10 @@ use lib.ListN.{get_elem?}
 use Rattle.atomic_table.specs.Table.{State, Me, Step}
 use Rattle.unit_draws.specs.declared.view.DrawSizes.{DrawSizes}
 use Rattle.unit_draws.specs.declared.view.DrawView.{DrawView}
+use Rattle.unit_draws.specs.declared.view.TheConstants.{MOST_SEATS}
 use Rattle.unit_draws.specs.declared.windows.TheConstants.{WINDOW}
 use Rattle.unit_draws.specs.Windows.{window_count, window_length}
-use Rattle.unit_draws.specs.Seats.{occurrences, with_unit, with_ended, HasEverySeat, HasDrawnWindow, IsAboveDrawn}
+use Rattle.unit_draws.specs.Seats.{occurrences, with_unit, with_ended, HasEverySeat, HasDrawnWindow, places_ahead}
 
 -- # Seats
 
@@ -49,7 +50,7 @@ abbrev pub ended_seats : ℕ → DrawView → ℕ
 ended_seats window v = if nat_lt 0 (occurrences window v.ended) then length v.numbers else 0
 
 pub record DrawRuleHolds (sizes : DrawSizes) (s : State (Unit {0}) DrawView) : Type 0 where
-  pub few : sizes.seats ≤ 65536
+  pub few : sizes.seats ≤ MOST_SEATS
   pub size : length s.words ≡ window_count sizes.units
   pub first : HasFirstSeat sizes s.views
   pub seats : (i : ℕ) (v : DrawView) → get_elem? s.views i ≡ some v → IsSeatAt sizes i v ⊎ IsJoinedAway v
@@ -68,7 +69,7 @@ pub record DrawRuleHolds (sizes : DrawSizes) (s : State (Unit {0}) DrawView) : T
 -- the seat drew a unit
 pub record DrawsUnit (v : DrawView) (window unit : ℕ) (v' : DrawView) : Type 0 where
   pub fresh : occurrences unit v.drawn ≡ 0
-  pub above : IsAboveDrawn v window unit
+  pub fewer : places_ahead window (with_unit v unit) < places_ahead window v
   pub drawn : v' ≡ with_unit v unit
 
 -- the seat saw the window end

@@ -1,9 +1,10 @@
 -- What contracts see of draws and of their seats, and what a call makes of a seat.
-use Rattle.std.specs.Prelude.{◌≡◌, ℕ, ◌-◌, ◌<◌, List, [], ◌∷◌, ◌++◌, length, count_by, ◌==◌}
+use Rattle.std.specs.Prelude.{◌≡◌, ℕ, ◌+◌, ◌-◌, ◌*◌, ◌/◌, ◌<◌, max, List, [], ◌∷◌, ◌++◌, length, count_by, ◌==◌, if◌then◌else◌}
 use Rattle.atomic_table.specs.Seated.{TableId}
 use Rattle.atomic_table.specs.Table.{Me}
 use Rattle.unit_draws.specs.declared.view.DrawSizes.{DrawSizes}
 use Rattle.unit_draws.specs.declared.view.DrawView.{DrawView}
+use Rattle.unit_draws.specs.declared.windows.TheConstants.{WINDOW}
 use Rattle.unit_draws.specs.Windows.{IsUnitOfWindow}
 
 -- which words, how many units they count, and how many seats there may be
@@ -74,9 +75,26 @@ with_seat v u =
       ended = v.ended ++ u.ended;
     }
 
+-- whatever a draw answers, the seat has its numbers still
+pub record KeepsNumbers (v v' : DrawView) : Type 0 where
+  pub number : v'.number ≡ v.number
+  pub numbers : v'.numbers ≡ v.numbers
+  pub spare : v'.spare ≡ v.spare
+
 -- what is left of a seat that another took in
 abbrev pub empty_seat : DrawView
 empty_seat = record { units = 0; seats = 0; number = 0; numbers = []; spare = 0; drawn = []; ended = [] }
+
+-- # Where a seat stands in a window
+
+-- the place behind the units of the window that stand in the list
+abbrev pub place_behind : ℕ → List ℕ → ℕ
+place_behind window [] = WINDOW * window
+place_behind window (u ∷ us) = if u / WINDOW == window then max (u + 1) (place_behind window us) else place_behind window us
+
+-- how many places of the window lie behind the units that the seat drew of it: only their units can still come to it
+abbrev pub places_ahead : ℕ → DrawView → ℕ
+places_ahead window v = WINDOW * (window + 1) - place_behind window v.drawn
 
 -- # What a seat knows of all others
 
@@ -88,10 +106,6 @@ pub record HasEverySeat (v : DrawView) : Type 0 where
 -- each unit of the window was drawn, and none twice
 abbrev pub HasDrawnWindow : DrawView → ℕ → Type 0
 HasDrawnWindow v window = (u : ℕ) → IsUnitOfWindow v.units window u → occurrences u v.drawn ≡ 1
-
--- the unit is above all that the seat drew of the window
-abbrev pub IsAboveDrawn : DrawView → ℕ → ℕ → Type 0
-IsAboveDrawn v window unit = (x : ℕ) → IsUnitOfWindow v.units window x → 0 < occurrences x v.drawn → x < unit
 
 -- what is true of a seat by itself: it holds no slot of the table, has its number and its spare ones written down,
 -- and wasn't joined into another

@@ -1,7 +1,8 @@
 //! The draws: how they are made, how seats are split off and joined, and how a unit is drawn.
-ghost use Rattle.std.specs.Prelude.{◌≡◌, ◌≢◌, ◌<◌, ◌≤◌, ℕ, IfOk, IfSome, IfNone};
+ghost use Rattle.std.specs.Prelude.{◌≡◌, ◌≢◌, ◌<◌, ◌≤◌, ℕ, IfOk, IfSome, IfNone, OnSome};
+ghost use Rattle.unit_draws.specs.declared.view.TheConstants.{MOST_SEATS};
 ghost use Rattle.unit_draws.specs.Windows.{window_count, IsUnitOfWindow};
-ghost use Rattle.unit_draws.specs.Seats.{occurrences, IsSeatOf, first_seat, with_less_spare, seat_split_off, with_seat, with_unit, with_ended, HasEverySeat, HasDrawnWindow, IsAboveDrawn};
+ghost use Rattle.unit_draws.specs.Seats.{occurrences, IsSeatOf, first_seat, with_less_spare, seat_split_off, with_seat, with_unit, with_ended, KeepsNumbers, HasEverySeat, HasDrawnWindow, places_ahead};
 
 use crate::rule::{DrawNumber, DrawRule, JoinSeats, LoadBehindJoin, SplitSeat};
 use crate::seat::DrawSeat;
@@ -14,8 +15,8 @@ use std::marker::Model;
 /// The words that threads draw units from, one for each window.
 #[derive(Drop)]
 pub struct Draws {
-    table: Table<(), DrawView, DrawSizes, DrawRule, Global>,
-    sizes: DrawSizes,
+    pub(crate) table: Table<(), DrawView, DrawSizes, DrawRule, Global>,
+    pub(crate) sizes: DrawSizes,
 }
 
 impl Model for Draws {
@@ -33,7 +34,7 @@ impl Model for Draws {
 impl Draws {
     /// Draws of so many units, none of which is drawn, and their first seat. There may be so many seats.
     pub fn new(alloc: Global, units: u32, seats: u32) -> Result<(Draws, DrawSeat), AllocError>
-        requires { (1 ≤ seats) × (seats ≤ 65536) }
+        requires { (1 ≤ seats) × (seats ≤ MOST_SEATS) }
         ensures units { IfOk result (λ r. r.0.sizes.units ≡ units) }
         ensures seats { IfOk result (λ r. r.0.sizes.seats ≡ seats) }
         ensures of { IfOk result (λ r. IsSeatOf r.0 r.1) }
@@ -77,14 +78,18 @@ impl Draws {
         requires open { occurrences window seat.old.knows.ended ≡ 0 }
 
         ensures of { IsSeatOf self.now seat.new }
+        ensures numbers { KeepsNumbers seat.old.knows seat.new.knows }
         ensures unit { IfSome result (IsUnitOfWindow self.now.sizes.units window) }
         ensures fresh { IfSome result (λ u. occurrences u seat.old.knows.drawn ≡ 0) }
-        // above the units of the window that the seat drew before
-        ensures above { IfSome result (IsAboveDrawn seat.old.knows window) }
         ensures drawn { IfSome result (λ u. seat.new.knows ≡ with_unit seat.old.knows u) }
 
+        // so a loop that draws to the window's end comes to it
+        ensures fewer { OnSome result
+            (places_ahead window seat.new.knows < places_ahead window seat.old.knows) }
+
         ensures ended { IfNone result (seat.new.knows ≡ with_ended seat.old.knows window) }
-        ensures whole { IfNone result (HasEverySeat seat.old.knows → HasDrawnWindow seat.old.knows window) }
+        ensures whole { IfNone result
+            (HasEverySeat seat.old.knows → HasDrawnWindow seat.old.knows window) }
     {
         let length = u64::from(length_of(self.sizes.units, window));
         let found = self
@@ -106,8 +111,8 @@ impl Draws {
         ensures of { IsSeatOf self.now into.new }
         ensures both { into.new.knows ≡ with_seat into.old.knows from.knows }
         ensures once { (u : ℕ) → occurrences u into.new.knows.drawn ≤ 1 }
-        ensures whole { HasEverySeat into.new.knows → (w : ℕ) → 0 < occurrences w into.new.knows.ended
-            → HasDrawnWindow into.new.knows w }
+        ensures whole { HasEverySeat into.new.knows
+            → (w : ℕ) → 0 < occurrences w into.new.knows.ended → HasDrawnWindow into.new.knows w }
     {
         let DrawSeat {
             seat,

@@ -10,11 +10,13 @@
 mod draws;
 mod rule;
 mod seat;
+#[cfg(test)]
+mod tests;
 mod view;
 mod windows;
 
 pub use draws::Draws;
 pub use rule::DrawRule;
 pub use seat::DrawSeat;
-pub use view::{DrawSizes, DrawView};
+pub use view::{DrawSizes, DrawView, MOST_SEATS};
 pub use windows::{WINDOW, count_windows};

@@ -1,6 +1,9 @@
 //! What draws are told when they are made, and what a seat knows.
 use std::collections::LinkedList;
 
+/// How many seats there may be at most.
+pub const MOST_SEATS: u32 = 65536;
+
 /// How many units are drawn, and how many seats there may be.
 #[derive(Clone, Copy)]
 pub struct DrawSizes {

@@ -28,11 +28,14 @@ impl Model for Draws {
 
     ghost view = { λ d. record { table = d.table.shared.table_id; sizes = d.sizes } };
 
-    ghost invariant = { λ d. (d.table.shared.key ≡ d.sizes) × (d.table.shared.table_id.words ≡ window_count d.sizes.units) };
+    ghost invariant = { λ d. (d.table.shared.key ≡ d.sizes)
+        × (d.table.shared.table_id.words ≡ window_count d.sizes.units) };
 }
 
 impl Draws {
-    /// Draws of so many units, none of which is drawn, and their first seat. There may be so many seats.
+    /// Draws of so many units for so many seats, and their first seat. No unit is drawn.
+    ///
+    /// `seats` counts each seat that is ever split off, also where another took it in.
     pub fn new(alloc: Global, units: u32, seats: u32) -> Result<(Draws, DrawSeat), AllocError>
         requires { (1 ≤ seats) × (seats ≤ MOST_SEATS) }
         ensures units { IfOk result (λ r. r.0.sizes.units ≡ units) }

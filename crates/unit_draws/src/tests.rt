@@ -40,7 +40,8 @@ impl Worker {
         requires open { occurrences window self.old.seat.knows.ended ≡ 0 }
         ensures of { IsSeatOf draws.now self.new.seat }
         ensures numbers { KeepsNumbers self.old.seat.knows self.new.seat.knows }
-        ensures ended { OnOk result (self.new.seat.knows.ended ≡ self.old.seat.knows.ended ++ window ∷ []) }
+        ensures ended { OnOk result
+            (self.new.seat.knows.ended ≡ self.old.seat.knows.ended ++ window ∷ []) }
     {
         while let Some(unit) = draws.draw(&mut self.seat, window) {
             self.units.push(unit)?;

@@ -16,7 +16,6 @@ mod view;
 mod windows;
 
 pub use draws::Draws;
-pub use rule::DrawRule;
 pub use seat::DrawSeat;
 pub use view::{DrawSizes, DrawView, MOST_SEATS};
 pub use windows::{WINDOW, count_windows};

@@ -3,7 +3,7 @@ use crate::view::{DrawSizes, DrawView};
 use atomic_table::{Join, Play, Split, TableRule};
 
 /// Each unit that a window's word has passed was drawn once, by one seat.
-pub struct DrawRule;
+pub(crate) struct DrawRule;
 
 impl TableRule<(), DrawView, DrawSizes> for DrawRule {
     ghost use Rattle.unit_draws.specs.Seats.{first_seat};
@@ -15,7 +15,7 @@ impl TableRule<(), DrawView, DrawSizes> for DrawRule {
 }
 
 /// An addition of 1 to a window's word.
-pub struct DrawNumber;
+pub(crate) struct DrawNumber;
 
 impl Play<(), DrawView> for DrawNumber {
     ghost use Rattle.unit_draws.specs.Rule.{DrawsNumber};
@@ -24,7 +24,7 @@ impl Play<(), DrawView> for DrawNumber {
 }
 
 /// The load behind a join, by which the seat learns that no two seats drew one unit.
-pub struct LoadBehindJoin;
+pub(crate) struct LoadBehindJoin;
 
 impl Play<(), DrawView> for LoadBehindJoin {
     ghost use Rattle.unit_draws.specs.Rule.{LearnsOfDrawn};
@@ -33,7 +33,7 @@ impl Play<(), DrawView> for LoadBehindJoin {
 }
 
 /// How a seat hands on one of its spare numbers.
-pub struct SplitSeat;
+pub(crate) struct SplitSeat;
 
 impl Split<DrawView> for SplitSeat {
     ghost use Rattle.unit_draws.specs.Seats.{with_less_spare, seat_split_off};
@@ -44,7 +44,7 @@ impl Split<DrawView> for SplitSeat {
 }
 
 /// How a seat takes another in.
-pub struct JoinSeats;
+pub(crate) struct JoinSeats;
 
 impl Join<DrawView> for JoinSeats {
     ghost use Rattle.unit_draws.specs.Seats.{with_seat, empty_seat};

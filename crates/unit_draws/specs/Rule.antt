@@ -49,6 +49,7 @@ pub record IsPassed (units : ℕ) (words : List ℕ) (unit : ℕ) : Type 0 where
 abbrev pub ended_seats : ℕ → DrawView → ℕ
 ended_seats window v = if nat_lt 0 (occurrences window v.ended) then length v.numbers else 0
 
+-- what is so between any two steps
 pub record DrawRuleHolds (sizes : DrawSizes) (s : State (Unit {0}) DrawView) : Type 0 where
   pub few : sizes.seats ≤ MOST_SEATS
   pub size : length s.words ≡ window_count sizes.units
@@ -61,7 +62,7 @@ pub record DrawRuleHolds (sizes : DrawSizes) (s : State (Unit {0}) DrawView) : T
   pub drawn : (u : ℕ) → IsOneWhere (IsPassed sizes.units s.words u) (sum_by (λ v. occurrences u v.drawn) s.views)
   -- where a seat saw a window end, the window's word has passed all its units
   pub ended : (i : ℕ) (v : DrawView) → get_elem? s.views i ≡ some v → (w : ℕ) → 0 < occurrences w v.ended → window_length sizes.units w ≤ slice_index s.words w
-  -- a window's word goes on only by one for each seat that sees the window end
+  -- a window's word is at most the window's length and one more for each seat that saw it end
   pub bound : (w : ℕ) → slice_index s.words w ≤ window_length sizes.units w + sum_by (ended_seats w) s.views
 
 -- # What a step tells

@@ -75,15 +75,15 @@ with_seat v u =
       ended = v.ended ++ u.ended;
     }
 
+-- what is left of a seat that another took in
+abbrev pub empty_seat : DrawView
+empty_seat = record { units = 0; seats = 0; number = 0; numbers = []; spare = 0; drawn = []; ended = [] }
+
 -- whatever a draw answers, the seat has its numbers still
 pub record KeepsNumbers (v v' : DrawView) : Type 0 where
   pub number : v'.number ≡ v.number
   pub numbers : v'.numbers ≡ v.numbers
   pub spare : v'.spare ≡ v.spare
-
--- what is left of a seat that another took in
-abbrev pub empty_seat : DrawView
-empty_seat = record { units = 0; seats = 0; number = 0; numbers = []; spare = 0; drawn = []; ended = [] }
 
 -- # Where a seat stands in a window
 

@@ -75,6 +75,8 @@ impl Draws {
     }
 
     /// Draws a unit of the window that no seat drew before, or answers `None` where all were drawn.
+    ///
+    /// After `None` the seat has seen the window end, and draws from it no more.
     pub fn draw(&self, seat: &mut DrawSeat, window: u32) -> Option<u32>
         requires of { IsSeatOf self.now seat.old }
         requires window { window < window_count self.now.sizes.units }
@@ -86,7 +88,7 @@ impl Draws {
         ensures fresh { IfSome result (λ u. occurrences u seat.old.knows.drawn ≡ 0) }
         ensures drawn { IfSome result (λ u. seat.new.knows ≡ with_unit seat.old.knows u) }
 
-        // so a loop that draws to the window's end comes to it
+        // a loop that draws until `None` comes to its end
         ensures fewer { OnSome result
             (places_ahead window seat.new.knows < places_ahead window seat.old.knows) }
 

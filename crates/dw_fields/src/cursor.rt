@@ -8,7 +8,7 @@ ghost use Rattle.dw_fields.specs.Reading.{Gives, IsAddressSize, Moves, Spells, b
 use crate::byte_order::Order;
 use crate::fault_code::{Code, Fault};
 use crate::leb128::{last_group, signed_value, unsigned_value};
-use byteorder::{BigEndian, ByteOrder, LittleEndian};
+use crate::text_end::zero_place;
 use std::marker::Model;
 
 /// An initial length (DWARF 5 section 7.4): the number of bytes behind it, and whether it is one of
@@ -130,10 +130,7 @@ impl<'a> Cut<'a> {
     {
         let start = self.place;
         if n > self.end - start {
-            return Err(Fault {
-                code: Code::Truncated,
-                place: start,
-            });
+            return Err(Fault::at(Code::Truncated, start));
         }
         let bytes = self.bytes;
         self.place = start + n;
@@ -166,10 +163,7 @@ impl<'a> Cut<'a> {
     {
         let order = self.order;
         let field = self.bytes(2)?;
-        Ok(match order {
-            Order::Little => LittleEndian::read_u16(field),
-            Order::Big => BigEndian::read_u16(field),
-        })
+        Ok(order.u16(field))
     }
 
     /// A number of 3 bytes.
@@ -184,10 +178,7 @@ impl<'a> Cut<'a> {
     {
         let order = self.order;
         let field = self.bytes(3)?;
-        Ok(match order {
-            Order::Little => LittleEndian::read_u24(field),
-            Order::Big => BigEndian::read_u24(field),
-        })
+        Ok(order.u24(field))
     }
 
     /// A number of 4 bytes.
@@ -202,10 +193,7 @@ impl<'a> Cut<'a> {
     {
         let order = self.order;
         let field = self.bytes(4)?;
-        Ok(match order {
-            Order::Little => LittleEndian::read_u32(field),
-            Order::Big => BigEndian::read_u32(field),
-        })
+        Ok(order.u32(field))
     }
 
     /// A number of 8 bytes.
@@ -220,10 +208,7 @@ impl<'a> Cut<'a> {
     {
         let order = self.order;
         let field = self.bytes(8)?;
-        Ok(match order {
-            Order::Little => LittleEndian::read_u64(field),
-            Order::Big => BigEndian::read_u64(field),
-        })
+        Ok(order.u64(field))
     }
 
     /// A number of 16 bytes.
@@ -238,10 +223,7 @@ impl<'a> Cut<'a> {
     {
         let order = self.order;
         let field = self.bytes(16)?;
-        Ok(match order {
-            Order::Little => LittleEndian::read_u128(field),
-            Order::Big => BigEndian::read_u128(field),
-        })
+        Ok(order.u128(field))
     }
 
     /// An address of `size` bytes.
@@ -309,20 +291,14 @@ impl<'a> Cut<'a> {
             });
         }
         if word != 0xffff_ffff {
-            return Err(Fault {
-                code: Code::LengthReserved,
-                place: self.place,
-            });
+            return Err(Fault::at(Code::LengthReserved, self.place));
         }
         match ahead.u64() {
             Ok(value) => {
                 *self = ahead;
                 Ok(Length { wide: true, value })
             }
-            Err(fault) => Err(Fault {
-                code: fault.code,
-                place: self.place,
-            }),
+            Err(fault) => Err(Fault::at(fault.code, self.place)),
         }
     }
 
@@ -341,10 +317,7 @@ impl<'a> Cut<'a> {
                 self.place += count as u64 + 1;
                 Ok(&rest[..count])
             }
-            None => Err(Fault {
-                code: Code::TextUnended,
-                place: self.place,
-            }),
+            None => Err(Fault::at(Code::TextUnended, self.place)),
         }
     }
 
@@ -392,15 +365,9 @@ impl<'a> Cut<'a> {
                     self.place += last as u64 + 1;
                     Ok(value)
                 }
-                None => Err(Fault {
-                    code: Code::LebTooLarge,
-                    place: self.place,
-                }),
+                None => Err(Fault::at(Code::LebTooLarge, self.place)),
             },
-            None => Err(Fault {
-                code: Code::Truncated,
-                place: self.place,
-            }),
+            None => Err(Fault::at(Code::Truncated, self.place)),
         }
     }
 
@@ -418,15 +385,9 @@ impl<'a> Cut<'a> {
                     self.place += last as u64 + 1;
                     Ok(value)
                 }
-                None => Err(Fault {
-                    code: Code::LebTooLarge,
-                    place: self.place,
-                }),
+                None => Err(Fault::at(Code::LebTooLarge, self.place)),
             },
-            None => Err(Fault {
-                code: Code::Truncated,
-                place: self.place,
-            }),
+            None => Err(Fault::at(Code::Truncated, self.place)),
         }
     }
 
@@ -437,11 +398,4 @@ impl<'a> Cut<'a> {
     {
         &self.bytes[self.place as usize..self.end as usize]
     }
-}
-
-fn zero_place(bytes: &[u8]) -> Option<usize>
-    ensures place { result ≡ position (λ b. b == 0) bytes.now }
-    ensures within { IfSome result (λ n. n < length bytes.now) }
-{
-    bytes.iter().position(|byte| *byte == 0)
 }

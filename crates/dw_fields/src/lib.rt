@@ -7,11 +7,16 @@
 //! What the value, the new place and the fault are is a definition of `specs/Reading.antt`.
 #![tactic(auto)]
 
+mod address;
 mod byte_order;
 mod cursor;
 mod fault_code;
+mod fault_text;
 mod leb128;
+mod text_end;
 
+pub use address::wrap_address;
 pub use byte_order::Order;
 pub use cursor::{Cut, Length};
 pub use fault_code::{Code, Fault, renamed};
+pub use text_end::zero_place;

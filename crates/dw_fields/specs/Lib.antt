@@ -1,5 +1,5 @@
 pub mod Codes
-pub mod FaultTexts
+pub mod FaultMessages
 pub mod Span
 pub mod Leb
 pub mod Reading

@@ -11,7 +11,7 @@ mod address;
 mod byte_order;
 mod cursor;
 mod fault_code;
-mod fault_text;
+mod fault_message;
 mod leb128;
 mod text_end;
 

@@ -7,13 +7,14 @@
 #![tactic(auto)]
 
 mod chain;
-mod fields;
+mod header;
 mod index;
 mod kind;
 mod laws;
 mod refusal;
 
-pub use fields::UnitHeader;
+pub use chain::UNIT_LIMIT;
+pub use header::UnitHeader;
 pub use index::UnitIndex;
 pub use kind::{Extra, UnitKind};
 pub use laws::{header_keeps_its_shape, links_tile_the_section};

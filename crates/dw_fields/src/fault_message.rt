@@ -1,7 +1,7 @@
 //! Refusals in words.
 
 ghost use Rattle.std.specs.Prelude.{◌≡◌};
-ghost use Rattle.dw_fields.specs.FaultTexts.{code_text};
+ghost use Rattle.dw_fields.specs.FaultMessages.{code_message};
 
 use crate::fault_code::{Code, Fault};
 use std::error::Error;
@@ -9,8 +9,8 @@ use std::fmt;
 
 impl Code {
     /// What was wrong, in words.
-    pub fn text(&self) -> &'static str
-        ensures { result.now ≡ code_text self.now }
+    pub fn message(&self) -> &'static str
+        ensures { result.now ≡ code_message self.now }
     {
         match self {
             Code::LengthReserved => "reserved value of an initial length",
@@ -48,12 +48,12 @@ impl Code {
 
 impl fmt::Display for Code {
     ghost use Rattle.std.specs.Prelude.{Some};
-    ghost use Rattle.dw_fields.specs.FaultTexts.{code_text};
+    ghost use Rattle.dw_fields.specs.FaultMessages.{code_message};
 
-    ghost output = { λ c. Some (code_text c) };
+    ghost output = { λ c. Some (code_message c) };
 
     fn fmt<W: fmt::Write>(&self, f: &mut fmt::Formatter<W>) -> fmt::Result {
-        f.write_str(self.text())
+        f.write_str(self.message())
     }
 }
 
@@ -61,9 +61,9 @@ impl Error for Code {}
 
 impl fmt::Display for Fault {
     ghost use Rattle.std.specs.Prelude.{Some};
-    ghost use Rattle.dw_fields.specs.FaultTexts.{fault_text};
+    ghost use Rattle.dw_fields.specs.FaultMessages.{fault_message};
 
-    ghost output = { λ f. Some (fault_text f) };
+    ghost output = { λ f. Some (fault_message f) };
 
     fn fmt<W: fmt::Write>(&self, f: &mut fmt::Formatter<W>) -> fmt::Result {
         write!(f, "{} at offset 0x{:x}", self.code, self.place)

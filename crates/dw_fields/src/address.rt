@@ -3,8 +3,8 @@
 ghost use Rattle.std.specs.Prelude.{◌≡◌, ◌*◌, ◌<◌, ◌^◌};
 ghost use Rattle.dw_fields.specs.Reading.{IsAddressSize, wrapped_address};
 
-/// The address of `size` bytes that a sum stands for: the sum modulo 2 to the power of the address's
-/// bits.
+/// The address of `size` bytes that a sum stands for: the sum modulo 2 to the power of the
+/// address's bits.
 #[inline]
 #[tactic(auto, unfolding(crate::specs::Reading::wrapped_address))]
 pub fn wrap_address(sum: u128, size: u8) -> u64

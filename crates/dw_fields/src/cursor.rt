@@ -11,15 +11,17 @@ use crate::leb128::{last_group, signed_value, unsigned_value};
 use crate::text_end::zero_place;
 use std::marker::Model;
 
-/// An initial length (DWARF 5 section 7.4): the number of bytes behind it, and whether it is one of
-/// the 64-bit format.
+/// An initial length (DWARF 5 section 7.4).
 #[derive(Clone, Copy, Debug, PartialEq, Eq)]
 pub struct Length {
+    /// Whether it is of the 64-bit format.
     pub wide: bool,
+    /// The number of bytes behind it.
     pub value: u64,
 }
 
-/// A part of a section that is read from front to back. Places are offsets from the section's start.
+/// A part of a section that is read from front to back. Places are offsets from the section's
+/// start.
 #[derive(Drop)]
 pub struct Cut<'a> {
     bytes: &'a [u8],
@@ -34,7 +36,12 @@ impl<'a> Model for Cut<'a> {
 
     ghost Value = { Span };
 
-    ghost view = { λ c. record { bytes = c.bytes.now; place = c.place; end = c.end; order = c.order } };
+    ghost view = { λ c. record {
+      bytes = c.bytes.now;
+      place = c.place;
+      end = c.end;
+      order = c.order;
+    } };
 
     ghost invariant = { λ c. (c.place ≤ c.end) × (c.end ≤ length c.bytes.now) };
 }
@@ -45,7 +52,12 @@ impl<'a> Cut<'a> {
     pub fn new(bytes: &'a [u8], place: u64, end: u64, order: Order) -> Cut<'a>
         requires begins { place ≤ end }
         requires ends { end ≤ length bytes.now }
-        ensures { result ≡ record { bytes = bytes.entry.now; place = place; end = end; order = order } }
+        ensures { result ≡ record {
+          bytes = bytes.entry.now;
+          place = place;
+          end = end;
+          order = order;
+        } }
     {
         Cut {
             bytes,
@@ -274,8 +286,8 @@ impl<'a> Cut<'a> {
     /// An initial length.
     ///
     /// # Errors
-    /// At the length's first byte: `Truncated` where the length passes the end, `LengthReserved` where
-    /// its first word is from 0xfffffff0 to 0xfffffffe.
+    /// At the length's first byte: `Truncated` where the length passes the end, `LengthReserved`
+    /// where its first word is from 0xfffffff0 to 0xfffffffe.
     #[tactic(auto, unfolding(crate::specs::Reading::length_at))]
     pub fn length(&mut self) -> Result<Length, Fault>
         ensures field { Gives (λ x. x) result length_at self.old self.new }

@@ -69,7 +69,9 @@ pub enum Code {
 /// A refusal of a section's bytes: the cause, and the offset of the field from the section's start.
 #[derive(Clone, Copy, Debug, PartialEq, Eq)]
 pub struct Fault {
+    /// What is wrong.
     pub code: Code,
+    /// Where: the field's offset from the section's start.
     pub place: u64,
 }
 
@@ -121,8 +123,8 @@ impl Fault {
     }
 }
 
-/// The answer of a reader under another name: a fault of the cause `from` gets the cause `to`, at the
-/// same place, and all else stays.
+/// The answer of a reader under another name: a fault of the cause `from` gets the cause `to`, at
+/// the same place, and all else stays.
 #[inline]
 pub fn renamed<T>(read: Result<T, Fault>, from: Code, to: Code) -> Result<T, Fault>
     ensures { result ≡ renamed_in from to read }

@@ -26,7 +26,11 @@ impl<'f> Model for UnitIndex<'f> {
 
     ghost Value = { Units };
 
-    ghost view = { λ x. record { info = x.info.now; order = x.order; abbrev_length = x.abbrev_length } };
+    ghost view = { λ x. record {
+      info = x.info.now;
+      order = x.order;
+      abbrev_length = x.abbrev_length;
+    } };
 
     ghost invariant = { λ x. (x.links.items ≡ unit_chain x.info.now x.order)
         × (x.abbrev_length < 2 ^ 32) };
@@ -80,7 +84,8 @@ impl<'f> UnitIndex<'f> {
     pub fn header(&self, i: u32) -> Result<UnitHeader, Fault>
         requires { i < unit_count self.now.info self.now.order }
         ensures header { result ≡ header_at self.now.info self.now.order self.now.abbrev_length i }
-        ensures shape { IfOk result (λ h. HasShape (length self.now.info) self.now.abbrev_length i h) }
+        ensures shape { IfOk result
+            (λ h. HasShape (length self.now.info) self.now.abbrev_length i h) }
     {
         match self.link(i) {
             Link::Whole {

@@ -1,5 +1,5 @@
-//! What the definitions of the chain and of a header say in the format's own words. The functions do
-//! nothing: their contracts are the laws.
+//! What the definitions of the chain and of a header say in the format's own words. The functions
+//! do nothing: their contracts are the laws.
 
 ghost use Rattle.std.specs.Prelude.{ℕ, length, IfOk};
 ghost use Rattle.unit_headers.specs.Headers.{HasShape, header_at};

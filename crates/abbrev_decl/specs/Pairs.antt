@@ -95,11 +95,6 @@ abbrev pub TakesPair : Option AttrSpec → List AttrSpec → List AttrSpec → T
 TakesPair None old new = (old ≡ []) × (new ≡ [])
 TakesPair (Some pair) old new = old ≡ pair ∷ new
 
--- A cut that went on, or stayed, inside its end.
-pub record Onward (old new : Span) : Type 0 where
-  pub forward : old.place ≤ new.place
-  pub inside : old.place ≤ old.end → new.place ≤ old.end
-
 -- The place behind pairs, or the fault in them.
 abbrev pub Skips : Result ℕ Fault → Result (List AttrSpec × ℕ) Fault → Type 0
 Skips (Ok next) answer = answer ≡ Ok (pairs_of answer, next)

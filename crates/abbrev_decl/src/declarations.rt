@@ -140,10 +140,7 @@ fn read_head(section: &[u8], place: u64) -> Result<Option<Head>, Fault>
     let byte = cut.place();
     let children = in_table(cut.u8())?;
     if 1 < children {
-        return Err(Fault {
-            code: Code::ChildrenByte,
-            place: byte,
-        });
+        return Err(Fault::at(Code::ChildrenByte, byte));
     }
     Ok(Some(Head {
         code,

@@ -1,8 +1,8 @@
 //! The pairs of a declaration: which attributes an entry has, and in which forms.
 
 ghost use Rattle.std.specs.Prelude.{◌≡◌, ◌≤◌, ◌+◌, length, IfOk, IfSome, OnOk};
-ghost use Rattle.dw_fields.specs.Reading.{Moves, Reads};
-ghost use Rattle.abbrev_decl.specs.Pairs.{EndAtFirstZeroPair, Onward, Skips, from, implicit_at, in_table, pair_at, pairs_at, short_pair as pair_of_bytes};
+ghost use Rattle.dw_fields.specs.Reading.{Moves, Onward, Reads};
+ghost use Rattle.abbrev_decl.specs.Pairs.{EndAtFirstZeroPair, Skips, from, implicit_at, in_table, pair_at, pairs_at, short_pair as pair_of_bytes};
 
 use dw_fields::{Code, Cut, Fault, Order, renamed};
 use dw_numbers::form;

@@ -5,4 +5,3 @@ pub mod Names
 pub mod Refusals
 pub mod Rows
 pub mod Shapes
-pub mod StringTables

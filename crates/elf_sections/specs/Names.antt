@@ -1,6 +1,7 @@
 -- What a section header stands for: the section's bytes and name, and when they are refused.
-use Rattle.std.specs.Prelude.{ℕ, ◌+◌, ◌==◌, nat_eq, nat_lt, nat_le, bit_and, Bool, not, ◌&&◌, ◌||◌, if◌then◌else◌, List, [], ◌∷◌, length, take, drop, position, codes, map, Option, Some, None, option_map, is_none, unwrap_or, Result, Ok}
+use Rattle.std.specs.Prelude.{ℕ, ◌+◌, ◌==◌, nat_eq, nat_lt, bit_and, Bool, not, ◌&&◌, ◌||◌, if◌then◌else◌, List, [], ◌∷◌, length, take, drop, codes, map, Option, Some, None, is_none, unwrap_or, Result, Ok}
 use Rattle.std.specs.List.{starts_with}
+use Rattle.string_tables.specs.StringTables.{text_in_table}
 use Rattle.elf_sections.specs.declared.header.Header.{Header}
 use Rattle.elf_sections.specs.declared.layout.Layout.{Layout}
 use Rattle.elf_sections.specs.declared.table.Table.{Table}
@@ -24,10 +25,6 @@ is_out_of_bounds file header = has_bytes header.kind && nat_lt (length file) (he
 unfoldable pub contents_of : List ℕ → Header → List ℕ
 contents_of file header = if has_bytes header.kind then take header.size (drop header.offset file) else []
 
--- the bytes before the first zero byte
-unfoldable pub before_zero : List ℕ → Option (List ℕ)
-before_zero bytes = option_map (λ n. take n bytes) (position (λ b. b == 0) bytes)
-
 -- The bytes of the names' section, which is none where its number is 0.
 unfoldable pub name_bytes : Layout → Table → List ℕ → Option (List ℕ)
 name_bytes layout table file =
@@ -38,7 +35,7 @@ name_bytes layout table file =
 -- name is empty.
 unfoldable pub name_of : Option (List ℕ) → Header → Option (List ℕ)
 name_of None header = Some []
-name_of (Some names) header = if nat_le (length names) header.name then None else before_zero (drop header.name names)
+name_of (Some names) header = text_in_table names header.name
 
 abbrev pub has_no_name : Option (List ℕ) → Header → Bool
 has_no_name names header = is_none (name_of names header)

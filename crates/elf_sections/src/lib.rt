@@ -16,7 +16,6 @@ mod numbers;
 mod reading;
 mod refusals;
 mod section_list;
-mod string_table;
 mod table;
 #[cfg(test)]
 mod tests;

@@ -6,7 +6,7 @@ ghost use Rattle.elf_sections.specs.Names.{has_bytes, is_out_of_bounds, contents
 
 use crate::headed::Section;
 use crate::header::Header;
-use crate::string_table::StringTable;
+use string_tables::StringTable;
 
 /// Whether sections of this type have bytes in the file.
 fn has_bytes(kind: u32) -> bool

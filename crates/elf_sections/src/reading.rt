@@ -11,9 +11,9 @@ use crate::header::{Header, header_size, read_header};
 use crate::layout::Layout;
 use crate::names::{contents_of, is_compressed, is_out_of_bounds, name_of};
 use crate::refusals::{ElfRefusal, OpenRefusal};
-use crate::string_table::StringTable;
 use crate::table::Table;
 use std::alloc::Global;
+use string_tables::StringTable;
 
 /// The section header of that number.
 fn header_of(file: &[u8], layout: Layout, table: Table, number: u64) -> Header

@@ -1,6 +1,5 @@
 //! Worked files: one without sections, and one with `.debug_info` and the names' section.
 
-use crate::string_table::StringTable;
 use crate::{Elf, ElfRefusal, OpenRefusal};
 use std::alloc::Global;
 use std::test::Fail;
@@ -96,30 +95,4 @@ fn refuses_in_order(rt: HostRuntime) {
     }
     assert_eq!(rt; refusal_of(rt.alloc(), &changed(195, 227)), None);
     assert_eq!(rt; refusal_of(rt.alloc(), &changed(40, 0)), None);
-}
-
-#[test]
-fn texts_end_behind_their_block(rt: HostRuntime) -> Result<(), Fail> {
-    let mut bytes = [b'a'; 600];
-    bytes[130] = 0;
-    bytes[450] = 0;
-    let table = StringTable::new(rt.alloc(), &bytes)?;
-    for (place, length) in [
-        (0, Some(130)),
-        (127, Some(3)),
-        (130, Some(0)),
-        (131, Some(319)),
-        (256, Some(194)),
-        (449, Some(1)),
-        (451, None),
-        (599, None),
-        (600, None),
-    ] {
-        assert_eq!(rt;
-            table.text_at(place).map(|text| text.len()),
-            length,
-            "place {place}"
-        );
-    }
-    Ok(())
 }

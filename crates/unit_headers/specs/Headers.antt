@@ -9,7 +9,7 @@ use Rattle.dw_fields.specs.Span.{Span, at}
 use Rattle.dw_fields.specs.Reading.{IsAddressSize, Reader, ◌>>=◌, ◌>>◌, is_address_size, number_at, offset_at, refuse}
 use Rattle.unit_headers.specs.declared.chain.Link.{Link}
 use Rattle.unit_headers.specs.declared.chain.Link.TheVariants.{Whole, Broken}
-use Rattle.unit_headers.specs.declared.fields.UnitHeader.{UnitHeader}
+use Rattle.unit_headers.specs.declared.header.UnitHeader.{UnitHeader}
 use Rattle.unit_headers.specs.declared.kind.UnitKind.{UnitKind}
 use Rattle.unit_headers.specs.Kinds.{HasExtraOf, extra_at, in_unit, kind_of}
 use Rattle.unit_headers.specs.Links.{unit_chain}

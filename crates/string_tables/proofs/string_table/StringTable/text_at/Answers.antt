@@ -1,7 +1,7 @@
 use Rattle.std.proofs.Common.{◌≡◌, ◌≤◌, ◌∙◌, length, sym, refl, arith}
-use Rattle.elf_sections.specs.StringTables.{end_from}
-use Rattle.elf_sections.proofs.Ends.{text_none, text_some}
-use Rattle.elf_sections.proofs.string_table.StringTable.text_at.Goals as goal
+use Rattle.string_tables.specs.StringTables.{end_from}
+use Rattle.string_tables.proofs.Ends.{text_none, text_some}
+use Rattle.string_tables.proofs.string_table.StringTable.text_at.Goals as goal
 
 pub returns-then-end-self : goal.returns-then-end-self
 returns-then-end-self c =

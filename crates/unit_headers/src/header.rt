@@ -1,27 +1,35 @@
-//! The fields of a unit's header (DWARF 5 section 7.5.1).
+//! The header of a unit (DWARF 5 section 7.5.1): one function a field.
 
 ghost use Rattle.std.specs.Prelude.{◌≡◌, ◌<◌, ◌≤◌, ◌^◌, length, IfOk};
 ghost use Rattle.dw_fields.specs.Reading.{IsAddressSize, Reads};
 ghost use Rattle.unit_headers.specs.Headers.{declarations_at, header_of, kind_at, size_at, version_at};
 
 use crate::kind::{Extra, UnitKind, read_extra, unit_kind};
-use dw_fields::{Code, Cut, Fault, renamed};
+use crate::refusal::in_unit;
+use dw_fields::{Code, Cut, Fault};
 
-/// The header of a unit. Places are offsets from the section's start: `place` is the unit's first
-/// byte, `end` the first behind it, and `entries` that of its first entry. `abbrev` is the offset of
-/// its declarations in `.debug_abbrev`, `wide` says that the unit is of the 64-bit format, and
-/// `address_size` is 2, 4 or 8 bytes.
+/// The header of a unit (DWARF 5 section 7.5.1.1). Places are offsets from the section's start.
 #[derive(Clone, Copy, Debug, PartialEq, Eq)]
 pub struct UnitHeader {
+    /// The unit's number in the section, from 0.
     pub number: u32,
+    /// The unit's first byte.
     pub place: u64,
+    /// The first byte behind the unit.
     pub end: u64,
+    /// Whether the unit is of the 64-bit format (section 7.4): its offsets have 8 bytes, else 4.
     pub wide: bool,
+    /// `version`: 5.
     pub version: u16,
+    /// `unit_type` (table 7.2).
     pub kind: UnitKind,
+    /// `address_size`: 2, 4 or 8 bytes.
     pub address_size: u8,
+    /// `debug_abbrev_offset`: where the unit's declarations begin in `.debug_abbrev`.
     pub abbrev: u32,
+    /// The place of the first entry, behind the header.
     pub entries: u64,
+    /// What a header of the unit's kind has behind these fields (sections 7.5.1.2 and 7.5.1.3).
     pub extra: Extra,
 }
 
@@ -62,12 +70,9 @@ fn read_version(cut: &mut Cut) -> Result<u16, Fault>
     ensures { Reads (λ x. x) result version_at cut.old cut.new }
 {
     let place = cut.place();
-    let version = renamed(cut.u16(), Code::Truncated, Code::UnitTruncated)?;
+    let version = in_unit(cut.u16())?;
     if version != 5 {
-        return Err(Fault {
-            code: Code::UnitVersion,
-            place,
-        });
+        return Err(Fault::at(Code::UnitVersion, place));
     }
     Ok(version)
 }
@@ -77,7 +82,7 @@ fn read_kind(cut: &mut Cut) -> Result<UnitKind, Fault>
     ensures { Reads (λ x. x) result kind_at cut.old cut.new }
 {
     let place = cut.place();
-    let number = renamed(cut.u8(), Code::Truncated, Code::UnitTruncated)?;
+    let number = in_unit(cut.u8())?;
     unit_kind(number, place)
 }
 
@@ -86,14 +91,11 @@ fn read_size(cut: &mut Cut) -> Result<u8, Fault>
     ensures { Reads (λ x. x) result size_at cut.old cut.new }
 {
     let place = cut.place();
-    let size = renamed(cut.u8(), Code::Truncated, Code::UnitTruncated)?;
+    let size = in_unit(cut.u8())?;
     if size == 2 || size == 4 || size == 8 {
         return Ok(size);
     }
-    Err(Fault {
-        code: Code::AddressSize,
-        place,
-    })
+    Err(Fault::at(Code::AddressSize, place))
 }
 
 #[tactic(auto, unfolding(crate::specs::Headers::declarations_at))]
@@ -102,12 +104,9 @@ fn read_declarations(cut: &mut Cut, abbrev_length: u64, wide: bool) -> Result<u3
     ensures { Reads (λ x. x) result (declarations_at abbrev_length wide) cut.old cut.new }
 {
     let place = cut.place();
-    let offset = renamed(cut.offset(wide), Code::Truncated, Code::UnitTruncated)?;
+    let offset = in_unit(cut.offset(wide))?;
     if offset > abbrev_length {
-        return Err(Fault {
-            code: Code::AbbrevOutside,
-            place,
-        });
+        return Err(Fault::at(Code::AbbrevOutside, place));
     }
     Ok(offset as u32)
 }

@@ -1,12 +1,11 @@
 -- Where the texts of a string table end, from one place to another.
-use Rattle.std.proofs.Common.{◌≡◌, ◌+◌, ◌-◌, ◌*◌, ◌/◌, ◌%◌, ◌≤◌, ◌<◌, ◌==◌, ℕ, zero, suc, min, Bool, true, false, not, cond, nat_lt, nat_le, get_or, if◌then◌else◌, List, [], ◌∷◌, ◌++◌, map, length, take, drop, Option, Some, None, refl, sym, ◌∙◌, ap, arith, length-drop}
+use Rattle.std.proofs.Common.{◌≡◌, ◌+◌, ◌-◌, ◌*◌, ◌/◌, ◌%◌, ◌≤◌, ◌<◌, ◌==◌, ℕ, zero, suc, min, Bool, true, false, not, cond, nat_lt, get_or, List, [], ◌∷◌, ◌++◌, map, length, take, drop, Option, Some, None, refl, sym, ◌∙◌, ap, arith, length-drop}
 use Rattle.std.specs.List.{position, position_or_len, range_with_len}
 use Rattle.std.proofs.lemmas.Bool.{ltb-true, ltb-false, lt-ltb, le-ltb, lt-leb}
 use Rattle.std.proofs.lemmas.List.{length-take, drop-drop}
 use Rattle.std.proofs.lemmas.List.FromFn.{map-range_with_len_more, length-map-range_with_len, get_or-map-range_with_len}
 use Rattle.std.proofs.lemmas.List.Sums.{prefix_len-le-length}
-use Rattle.elf_sections.specs.Names.{before_zero}
-use Rattle.elf_sections.specs.StringTables.{end_from, ends_of}
+use Rattle.string_tables.specs.StringTables.{before_zero, end_from, ends_of, text_in_table}
 
 -- how many bytes stand before the first zero byte
 abbrev run : List ℕ → ℕ
@@ -91,13 +90,13 @@ unfolding end_from
 end_missed table place m all inside room none =
     omega (arith, far table place m room none, run_within (drop place table), length-drop place table)
 
-pub text_none : (table : List ℕ) (place : ℕ) → place < length table → end_from table place ≡ length table → None ≡ (if nat_le (length table) place then None else before_zero (drop place table))
-unfolding end_from before_zero
+pub text_none : (table : List ℕ) (place : ℕ) → place < length table → end_from table place ≡ length table → None ≡ text_in_table table place
+unfolding end_from before_zero text_in_table
 text_none table place inside ends =
     rw (lt-leb (length table) place inside, le-ltb (run (drop place table)) (length (drop place table)) (omega (arith, length-drop place table))) refl
 
-pub text_some : (table text : List ℕ) (place : ℕ) → place < length table → end_from table place < length table → text ≡ take (end_from table place - place) (drop place table) → Some text ≡ (if nat_le (length table) place then None else before_zero (drop place table))
-unfolding end_from before_zero
+pub text_some : (table text : List ℕ) (place : ℕ) → place < length table → end_from table place < length table → text ≡ take (end_from table place - place) (drop place table) → Some text ≡ text_in_table table place
+unfolding end_from before_zero text_in_table
 text_some table text place inside ends is =
     let n : place + run (drop place table) - place ≡ run (drop place table) = omega arith in
     rw (lt-leb (length table) place inside, lt-ltb (run (drop place table)) (length (drop place table)) (omega (arith, length-drop place table)), is, n) refl

@@ -1,9 +1,9 @@
-//! The string table that holds the sections' names (gABI chapter 4, "String Table").
+//! A string table with the ends of its texts (gABI chapter 4, "String Table").
 
-ghost use Rattle.std.specs.Prelude.{◌≡◌, ◌==◌, ◌≤◌, ◌<◌, ℕ, nat_le, if◌then◌else◌, None, drop, length, position, option_map, IfOk};
-ghost use Rattle.elf_sections.specs.Names.{before_zero};
-ghost use Rattle.elf_sections.specs.StringTables.{end_from, ends_of};
+ghost use Rattle.std.specs.Prelude.{◌≡◌, ◌≤◌, ◌<◌, ℕ, length, option_map, IfOk};
+ghost use Rattle.string_tables.specs.StringTables.{end_from, ends_of, text_in_table};
 
+use crate::search::first_zero;
 use std::alloc::{AllocError, Global};
 use std::marker::Model;
 
@@ -12,10 +12,11 @@ const BLOCK: usize = 128;
 
 /// The bytes of a string table, and where the texts end that stand at the ends of its blocks.
 ///
-/// Headers may name any place, and many of them places of one long text. With the ends kept, a name
-/// costs a walk over one block at most, so that the work grows no faster than the file.
+/// A file may name any place, and many times places of one long text. With the ends kept, a text costs
+/// a walk over one block at most, so that the work grows no faster than the file. The table costs one
+/// walk over all of its bytes, and 8 bytes of memory for each block of 128.
 #[derive(Drop)]
-pub(crate) struct StringTable<'f> {
+pub struct StringTable<'f> {
     bytes: &'f [u8],
     /// For the end of each whole block, the place of the next zero byte, or the table's length.
     ends: Vec<usize>,
@@ -23,7 +24,7 @@ pub(crate) struct StringTable<'f> {
 
 impl<'f> Model for StringTable<'f> {
     ghost use Rattle.std.specs.Prelude.{◌≡◌, List, ℕ};
-    ghost use Rattle.elf_sections.specs.StringTables.{ends_of};
+    ghost use Rattle.string_tables.specs.StringTables.{ends_of};
 
     ghost Value = { List ℕ };
 
@@ -34,17 +35,29 @@ impl<'f> Model for StringTable<'f> {
 
 impl<'f> StringTable<'f> {
     /// The table of these bytes, which are walked over once.
-    pub(crate) fn new(alloc: Global, bytes: &'f [u8]) -> Result<StringTable<'f>, AllocError>
+    ///
+    /// # Errors
+    /// Only want of memory for the ends.
+    pub fn new(alloc: Global, bytes: &'f [u8]) -> Result<StringTable<'f>, AllocError>
         ensures { IfOk result (λ t. t ≡ bytes.entry.now) }
     {
         let ends = ends_of(alloc, bytes)?;
         Ok(StringTable { bytes, ends })
     }
 
-    /// The text at a place, without its zero byte: none at or past the table's end, or where no zero
-    /// byte follows.
-    pub(crate) fn text_at(&self, place: usize) -> Option<&'f [u8]>
-        ensures { option_map (λ b. b.now) result ≡ (if nat_le (length self.now) place then None else before_zero (drop place self.now)) }
+    /// The length of the table in bytes.
+    #[inline]
+    pub fn len(&self) -> usize
+        ensures { result ≡ length self.now }
+    {
+        self.bytes.len()
+    }
+
+    /// The text that begins at a place, without the zero byte that ends it: none at or past the table's
+    /// end, or where no zero byte follows.
+    #[tactic(auto, unfolding(crate::specs::StringTables::text_in_table))]
+    pub fn text_at(&self, place: usize) -> Option<&'f [u8]>
+        ensures { option_map (λ b. b.now) result ≡ text_in_table self.now place }
     {
         if place >= self.bytes.len() {
             return None;
@@ -72,13 +85,6 @@ impl<'f> StringTable<'f> {
             },
         }
     }
-}
-
-/// The place of the first zero byte.
-fn first_zero(bytes: &[u8]) -> Option<usize>
-    ensures { result ≡ position (λ b. b == 0) bytes.now }
-{
-    bytes.iter().position(|b| *b == 0)
 }
 
 /// Where the text at a place ends, by a walk over all of it.

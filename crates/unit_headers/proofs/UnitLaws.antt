@@ -10,30 +10,31 @@ use Rattle.dw_fields.specs.declared.fault_code.Fault.{Fault}
 use Rattle.dw_fields.specs.Codes.{fault}
 use Rattle.dw_fields.specs.Span.{Span, at}
 use Rattle.dw_fields.specs.Reading.{◌>>=◌, IsAddressSize, is_address_size, length_at, number_at, offset_at, refuse}
-use Rattle.dw_fields.specs.Answers.{is_address_size-true, length_at-past, next-IfOk, number_at-past, offset_at-past, refuse-IfOk, renamed-IfOk}
+use Rattle.dw_fields.specs.ReaderLaws.{is_address_size-true, length_at-past, next-IfOk, number_at-past, offset_at-past, refuse-IfOk, renamed-IfOk}
 use Rattle.unit_headers.specs.declared.chain.Link.{Link}
 use Rattle.unit_headers.specs.declared.chain.Link.TheVariants.{Whole, Broken}
-use Rattle.unit_headers.specs.declared.fields.UnitHeader.{UnitHeader}
+use Rattle.unit_headers.specs.declared.chain.TheConstants.{UNIT_LIMIT}
+use Rattle.unit_headers.specs.declared.header.UnitHeader.{UnitHeader}
 use Rattle.unit_headers.specs.declared.kind.Extra.TheVariants.{Id, Signature}
 use Rattle.unit_headers.specs.declared.kind.UnitKind.{UnitKind}
 use Rattle.unit_headers.specs.declared.kind.UnitKind.TheVariants.{Compile, TypeUnit, Partial, Skeleton, SplitCompile, SplitType}
 use Rattle.unit_headers.specs.Kinds.{HasExtraOf, extra_at, id_at, in_unit, kind_of, signature_at}
-use Rattle.unit_headers.specs.Links.{LeadsOn, Tile, followed, link_at, link_of, links_from, section_from, unit_chain}
+use Rattle.unit_headers.specs.Links.{LeadsOn, LiesIn, Tile, followed, link_at, link_of, links_from, section_from, unit_chain}
 use Rattle.unit_headers.specs.Headers.{HasShape, declarations_at, header_at, header_of, kind_at, linked_header, size_at, unit_count, version_at}
 
-whole_leads : (size number place : ℕ) (read : Length × ℕ) (b : Bool) → nat_le (read.1 + read.0.value) size ≡ b → place + 4 ≤ read.1 → number < 131072
+whole_leads : (size number place : ℕ) (read : Length × ℕ) (b : Bool) → nat_le (read.1 + read.0.value) size ≡ b → place + 4 ≤ read.1 → number < UNIT_LIMIT
     → LeadsOn size number place (cond b (Whole place read.1 (read.1 + read.0.value) read.0.wide) (Broken (fault UnitTruncated place)))
 whole_leads size number place read true test past counted = (refl, past, omega arith, leb-true (read.1 + read.0.value) size test, counted)
 whole_leads size number place read false test past counted = tt
 
-link_leads : (size number place : ℕ) (read : Result (Length × ℕ) Fault) → number < 131072 → IfOk read (λ r. (place + 4 ≤ r.1) × (r.1 ≤ size)) → LeadsOn size number place (link_of size place read)
+link_leads : (size number place : ℕ) (read : Result (Length × ℕ) Fault) → number < UNIT_LIMIT → IfOk read (λ r. (place + 4 ≤ r.1) × (r.1 ≤ size)) → LeadsOn size number place (link_of size place read)
 link_leads size number place (Ok r) counted past = whole_leads size number place r (nat_le (r.1 + r.0.value) size) refl past.0 counted
 link_leads size number place (Err f) counted past = tt
 
-below : (number : ℕ) → number ≤ 131072 → number == 131072 ≡ false → number < 131072
+below : (number : ℕ) → number ≤ UNIT_LIMIT → number == UNIT_LIMIT ≡ false → number < UNIT_LIMIT
 below number counted test = grind (arith, nat_tests)
 
-link_test : (info : List ℕ) (order : Order) (number place : ℕ) (b : Bool) → number ≤ 131072 → number == 131072 ≡ b
+link_test : (info : List ℕ) (order : Order) (number place : ℕ) (b : Bool) → number ≤ UNIT_LIMIT → number == UNIT_LIMIT ≡ b
     → LeadsOn (length info) number place (cond b (Broken (fault UnitLimit place)) (link_of (length info) place (in_unit (length_at (section_from info order place)))))
 link_test info order number place true counted test = tt
 link_test info order number place false counted test =
@@ -41,28 +42,28 @@ link_test info order number place false counted test =
     (renamed-IfOk (λ r. (place + 4 ≤ r.1) × (r.1 ≤ length info)) Truncated UnitTruncated (length_at (section_from info order place)) (length_at-past (section_from info order place)))
 
 -- a link that was followed lies in the section and has at least 4 bytes
-pub link_at-leads : (info : List ℕ) (order : Order) (number place : ℕ) → number ≤ 131072 → LeadsOn (length info) number place (link_at info order number place)
+pub link_at-leads : (info : List ℕ) (order : Order) (number place : ℕ) → number ≤ UNIT_LIMIT → LeadsOn (length info) number place (link_at info order number place)
 unfolding link_at
-link_at-leads info order number place counted = link_test info order number place (number == 131072) counted refl
+link_at-leads info order number place counted = link_test info order number place (number == UNIT_LIMIT) counted refl
 
 tile_followed : (info : List ℕ) (order : Order) (most number place : ℕ) (link : Link)
     → link ≡ link_at info order number place → LeadsOn (length info) number place link
-    → ((end : ℕ) → place < end → end ≤ length info → number < 131072 → Tile info order (number + 1) end (links_from most info order (number + 1) end))
+    → ((end : ℕ) → place < end → end ≤ length info → number < UNIT_LIMIT → Tile info order (number + 1) end (links_from most info order (number + 1) end))
     → Tile info order number place (followed link (λ end. links_from most info order (number + 1) end))
 tile_followed info order most number place (Whole start body end wide) e leads later =
     (leads.0, sym e, later end (omega arith) leads.3 leads.4)
 tile_followed info order most number place (Broken f) e leads later = (sym e, refl)
 
 tile_begun : (info : List ℕ) (order : Order) (most number place : ℕ) (b : Bool) → nat_le (length info) place ≡ b
-    → place ≤ length info → number ≤ 131072
-    → ((end : ℕ) → place < end → end ≤ length info → number < 131072 → Tile info order (number + 1) end (links_from most info order (number + 1) end))
+    → place ≤ length info → number ≤ UNIT_LIMIT
+    → ((end : ℕ) → place < end → end ≤ length info → number < UNIT_LIMIT → Tile info order (number + 1) end (links_from most info order (number + 1) end))
     → Tile info order number place (cond b [] (followed (link_at info order number place) (λ end. links_from most info order (number + 1) end)))
 tile_begun info order most number place true test inside counted later =
     let past : length info ≤ place = leb-true (length info) place test in omega arith
 tile_begun info order most number place false test inside counted later =
     tile_followed info order most number place (link_at info order number place) refl (link_at-leads info order number place counted) later
 
-tile_from : (info : List ℕ) (order : Order) (most number place : ℕ) → place ≤ length info → length info ≤ place + most → number ≤ 131072
+tile_from : (info : List ℕ) (order : Order) (most number place : ℕ) → place ≤ length info → length info ≤ place + most → number ≤ UNIT_LIMIT
     → Tile info order number place (links_from most info order number place)
 unfolding links_from
 tile_from info order zero number place inside fuel counted = omega arith
@@ -76,7 +77,7 @@ chain_tiles info order = tile_from info order (length info) 0 0 (omega arith) (o
 
 -- the link at an index leads on from some place; none stands behind the last
 tile_leads : (info : List ℕ) (order : Order) (number place : ℕ) (links : List Link) (i n : ℕ) (f : Fault)
-    → Tile info order number place links → number ≤ 131072 → n ≡ number + i
+    → Tile info order number place links → number ≤ UNIT_LIMIT → n ≡ number + i
     → (start : ℕ) × LeadsOn (length info) n start (get_or links i (Broken f))
 tile_leads info order number place [] i n f tile counted e = (place, tt)
 tile_leads info order number place (Whole start body end wide ∷ links) zero n f tile counted e =
@@ -86,7 +87,7 @@ tile_leads info order number place (Whole start body end wide ∷ links) zero n 
 tile_leads info order number place (Whole start body end wide ∷ links) (suc i) n f tile counted e =
     let here : LeadsOn (length info) number place (Whole start body end wide)
     = subst (λ l. LeadsOn (length info) number place l) tile.1 (link_at-leads info order number place counted) in
-    let below : number < 131072 = here.4 in
+    let below : number < UNIT_LIMIT = here.4 in
     tile_leads info order (number + 1) end links i n f tile.2 (omega arith) (omega arith)
 tile_leads info order number place (Broken g ∷ links) zero n f tile counted e = (place, tt)
 tile_leads info order number place (Broken g ∷ links) (suc i) n f tile counted e =
@@ -198,32 +199,27 @@ pub header_met : (info : List ℕ) (order : Order) (abbrev_length i : ℕ) (resu
 header_met info order abbrev_length i result e =
     subst (λ r. IfOk r (λ h. HasShape (length info) abbrev_length i h)) (sym e) (header_shape info order abbrev_length i)
 
-tile_length : (info : List ℕ) (order : Order) (number place : ℕ) (links : List Link) → Tile info order number place links → number ≤ 131072 → number + length links ≤ 131073
+tile_length : (info : List ℕ) (order : Order) (number place : ℕ) (links : List Link) → Tile info order number place links → number ≤ UNIT_LIMIT → number + length links ≤ UNIT_LIMIT + 1
 tile_length info order number place [] tile counted = omega arith
 tile_length info order number place (Whole start body end wide ∷ links) tile counted =
     let here : LeadsOn (length info) number place (Whole start body end wide)
     = subst (λ l. LeadsOn (length info) number place l) tile.1 (link_at-leads info order number place counted) in
-    let below : number < 131072 = here.4 in
-    let later : (number + 1) + length links ≤ 131073 = tile_length info order (number + 1) end links tile.2 (omega arith) in
+    let below : number < UNIT_LIMIT = here.4 in
+    let later : (number + 1) + length links ≤ UNIT_LIMIT + 1 = tile_length info order (number + 1) end links tile.2 (omega arith) in
     omega arith
 tile_length info order number place (Broken f ∷ links) tile counted =
     let none : length links ≡ 0 = ap length tile.1 in
     omega arith
 
 -- a section has at most 131,072 units, and one that can't be followed
-pub chain_limit : (info : List ℕ) (order : Order) → length (unit_chain info order) ≤ 131073
+pub chain_limit : (info : List ℕ) (order : Order) → length (unit_chain info order) ≤ UNIT_LIMIT + 1
 chain_limit info order =
-    let all : 0 + length (unit_chain info order) ≤ 131073 = tile_length info order 0 0 (unit_chain info order) (chain_tiles info order) (omega arith) in
+    let all : 0 + length (unit_chain info order) ≤ UNIT_LIMIT + 1 = tile_length info order 0 0 (unit_chain info order) (chain_tiles info order) (omega arith) in
     omega arith
 
-pub unit_count_limit : (info : List ℕ) (order : Order) → unit_count info order ≤ 131073
+pub unit_count_limit : (info : List ℕ) (order : Order) → unit_count info order ≤ UNIT_LIMIT + 1
 unfolding unit_count
 unit_count_limit info order = chain_limit info order
-
--- a link of the chain lies in the section
-abbrev pub LiesIn : ℕ → Link → Type 0
-LiesIn size (Whole place body end wide) = (body ≤ end) × (end ≤ size)
-LiesIn size (Broken f) = Unit {0}
 
 leads_inside : (size number start : ℕ) (link : Link) → LeadsOn size number start link → LiesIn size link
 leads_inside size number start (Whole place body end wide) leads = (leads.2, leads.3)

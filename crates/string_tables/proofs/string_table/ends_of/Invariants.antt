@@ -1,7 +1,7 @@
 use Rattle.std.proofs.Common.{◌≡◌, ◌-◌, ◌*◌, map}
 use Rattle.std.specs.List.{range_with_len}
-use Rattle.elf_sections.specs.StringTables.{end_from}
-use Rattle.elf_sections.proofs.string_table.ends_of.Given as goal
+use Rattle.string_tables.specs.StringTables.{end_from}
+use Rattle.string_tables.proofs.string_table.ends_of.Given as goal
 
 abbrev pub invariant-loop-block : goal.invariant-loop-block
 invariant-loop-block l = record {

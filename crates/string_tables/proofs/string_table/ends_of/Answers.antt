@@ -1,7 +1,7 @@
 use Rattle.std.proofs.Common.{◌+◌, ◌-◌, ◌*◌, ◌≡◌, ◌∙◌, ap, arith}
-use Rattle.elf_sections.specs.StringTables.{end_from}
-use Rattle.elf_sections.proofs.Ends.{ends_more}
-use Rattle.elf_sections.proofs.string_table.ends_of.Goals as goal
+use Rattle.string_tables.specs.StringTables.{end_from}
+use Rattle.string_tables.proofs.Ends.{ends_more}
+use Rattle.string_tables.proofs.string_table.ends_of.Goals as goal
 
 pub loop-block-preserved : goal.loop-block-preserved
 loop-block-preserved c =

@@ -136,10 +136,8 @@ fn indexed_text<'f>(
     let (Some(table), Some(texts)) = (sections.text_offsets, sections.text) else {
         return Err(Code::NoSection);
     };
-    match word(table, sections.order, offset_bytes(wide), base, index) {
-        Ok(offset) => text_at_offset(texts, offset),
-        Err(cause) => Err(cause),
-    }
+    let offset = word(table, sections.order, offset_bytes(wide), base, index)?;
+    text_at_offset(texts, offset)
 }
 
 /// The address that stands in `.debug_addr`.
@@ -179,11 +177,9 @@ fn indexed_list(
     let Some(table) = section else {
         return Err(Code::NoSection);
     };
-    match word(table, order, offset_bytes(wide), base, index) {
-        Ok(offset) => match base.checked_add(offset) {
-            Some(place) => Ok(place),
-            None => Err(Code::IndexOutside),
-        },
-        Err(cause) => Err(cause),
+    let offset = word(table, order, offset_bytes(wide), base, index)?;
+    match base.checked_add(offset) {
+        Some(place) => Ok(place),
+        None => Err(Code::IndexOutside),
     }
 }

@@ -103,7 +103,8 @@ behind_form place (Err f) = Err (value_fault place f)
 unfoldable pub indirect_at : Widths → Reader RawView
 indirect_at widths s = do
   form ← uleb_at s
-  (if (form.0 == forms.INDIRECT) || (form.0 == forms.IMPLICIT_CONST) then Err (fault causes.IndirectForm s.place)
+  (if (form.0 == forms.INDIRECT) || (form.0 == forms.IMPLICIT_CONST)
+      then Err (fault causes.IndirectForm s.place)
       else behind_form s.place (direct_at form.0 widths (at s form.1)))
 
 -- Attribute value: the value that stands at the place in this form, and the place behind it. `implicit`

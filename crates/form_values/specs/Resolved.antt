@@ -94,7 +94,8 @@ text_of _ wide sections bases = Ok []
 -- Resolution of an address, of `size` bytes in the table.
 unfoldable pub address_of : RawView → ℕ → SectionsView → Bases → Result ℕ Code
 address_of (Address n) size sections bases = Ok n
-address_of (AddressIndex index) size sections bases = indexed_address index size sections bases.address
+address_of (AddressIndex index) size sections bases =
+    indexed_address index size sections bases.address
 address_of _ size sections bases = Ok 0
 
 -- Resolution of the place of a list: an offset is its own answer.

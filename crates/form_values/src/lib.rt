@@ -17,6 +17,6 @@ mod words;
 pub use dw_numbers::form;
 pub use raw::{Bases, Raw, UnitFacts, Widths};
 pub use reading::{read_form, read_value};
-pub use resolution::{resolve_address, resolve_list, resolve_text};
 pub use refused::refused_at;
+pub use resolution::{resolve_address, resolve_list, resolve_text};
 pub use words::text_in;

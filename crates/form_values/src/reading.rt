@@ -33,7 +33,8 @@ pub fn read_value<'f>(
     implicit: i64,
 ) -> Result<Raw<'f>, Fault>
     requires { IsAddressSize header.now.address_size }
-    ensures value { Gives raw_view result (value_at form (widths_of header.now) implicit) cut.old cut.new }
+    ensures value { Gives raw_view result (value_at form (widths_of header.now) implicit)
+        cut.old cut.new }
     ensures forward { OnOk result (cut.old.place ≤ cut.new.place) }
 {
     read_form(cut, form, Widths::of(header), implicit)

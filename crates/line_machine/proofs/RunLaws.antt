@@ -5,7 +5,7 @@ use Rattle.std.proofs.lemmas.Bool.Decides.{leb_tells}
 use Rattle.dw_fields.specs.declared.fault_code.Fault.{Fault}
 use Rattle.dw_fields.specs.Span.{Span, at, until}
 use Rattle.dw_fields.specs.Reading.{◌>>=◌, number_at, uleb_at, sleb_at}
-use Rattle.dw_fields.specs.Answers.{IsPast, next-IfOk, number_at-past, uleb_at-past, sleb_at-past}
+use Rattle.dw_fields.specs.ReaderLaws.{IsPast, next-IfOk, number_at-past, uleb_at-past, sleb_at-past}
 use Rattle.dw_fields.specs.Walk.{walk}
 use Rattle.line_machine.specs.declared.registers.Row.{Row}
 use Rattle.line_machine.specs.declared.registers.Program.{Program}

@@ -6,7 +6,7 @@ use Rattle.dw_fields.specs.declared.fault_code.Code.TheVariants.{Truncated}
 use Rattle.dw_fields.specs.Codes.{fault}
 use Rattle.dw_fields.specs.Span.{Span}
 use Rattle.dw_fields.specs.Leb.{last_group}
-use Rattle.dw_fields.specs.Answers.{IsPast, number_at-past, uleb_at-past, sleb_at-past}
+use Rattle.dw_fields.specs.ReaderLaws.{IsPast, number_at-past, uleb_at-past, sleb_at-past}
 use Rattle.dw_fields.specs.Reading.{◌>>=◌, renamed, number_at, uleb_at, sleb_at}
 
 -- what was read ends behind the place

@@ -1,5 +1,6 @@
--- The fields of a section as functions of its bytes: the value and the place behind it, or the fault.
-use Rattle.std.specs.Prelude.{◌||◌, All, ◌≡◌, ℕ, ◌+◌, ◌-◌, ◌≤◌, ◌==◌, ◌⊎◌, nat_lt, nat_le, Bool, true, false, cond, if◌then◌else◌, List, take, drop, position, Option, Some, None, Result, Ok, Err, ℤ}
+-- The fields of a section as functions of its bytes: the value and the place behind it, or the
+-- fault.
+use Rattle.std.specs.Prelude.{◌||◌, All, ◌≡◌, ℕ, ◌+◌, ◌-◌, ◌*◌, ◌%◌, ◌^◌, ◌≤◌, ◌==◌, ◌⊎◌, nat_lt, nat_le, Bool, true, false, cond, if◌then◌else◌, List, take, drop, position, Option, Some, None, Result, Ok, Err, ℤ}
 use Rattle.byteorder.specs.Endian.{little_number, big_number}
 use Rattle.dw_fields.specs.declared.byte_order.Order.{Order}
 use Rattle.dw_fields.specs.declared.byte_order.Order.TheVariants.{Little, Big}
@@ -15,19 +16,19 @@ use Rattle.dw_fields.specs.Leb.{last_group, signed_of, unsigned_of}
 abbrev pub Reader : Type 0 → Type 0
 Reader X = Span → Result (X × ℕ) Fault
 
--- one answer after another: the first fault is the answer
+-- one answer after another: the first refusal is the answer, whatever its type
 infixl 10 ◌>>=◌
-abbrev pub ◌>>=◌ : {A B : Type 0} → Result A Fault → (A → Result B Fault) → Result B Fault
+abbrev pub ◌>>=◌ : {E A B : Type 0} → Result A E → (A → Result B E) → Result B E
 Ok a >>= f = f a
 Err e >>= f = Err e
 
 infixl 10 ◌>>◌
-abbrev pub ◌>>◌ : {A B : Type 0} → Result A Fault → Result B Fault → Result B Fault
+abbrev pub ◌>>◌ : {E A B : Type 0} → Result A E → Result B E → Result B E
 a >> b = a >>= (λ _. b)
 
--- the fault, if the test holds
-abbrev pub refuse : Bool → Fault → Result (Unit {0}) Fault
-refuse bad f = cond bad (Err f) (Ok tt)
+-- the refusal, if the test holds
+abbrev pub refuse : {E : Type 0} → Bool → E → Result (Unit {0}) E
+refuse bad refusal = cond bad (Err refusal) (Ok tt)
 
 -- a fault of the cause `from` gets the cause `to`, at its place
 abbrev pub renamed : {X : Type 0} → Code → Code → Result X Fault → Result X Fault
@@ -39,7 +40,8 @@ abbrev pub placed : {X : Type 0} → ℕ → Result X Fault → Result X Fault
 placed place (Ok x) = Ok x
 placed place (Err f) = Err (fault f.code place)
 
--- The answer is the reader's, seen by `view`; the cut stands behind the field, or as it was at a fault.
+-- The answer is the reader's, seen by `view`; the cut stands behind the field, or as it was at a
+-- fault.
 abbrev pub Gives : {X Y : Type 0} → (X → Y) → Result X Fault → Reader Y → Span → Span → Type 0
 Gives view (Ok x) read old new = (read old ≡ Ok (view x, new.place)) × (new ≡ at old new.place)
 Gives view (Err f) read old new = (read old ≡ Err f) × (new ≡ old)
@@ -54,12 +56,21 @@ pub record Moves (least : ℕ) (old new : Span) : Type 0 where
   pub forward : old.place + least ≤ new.place
   pub inside : new.place ≤ old.end
 
+-- a cut that went on, or stayed, inside its end
+pub record Onward (old new : Span) : Type 0 where
+  pub forward : old.place ≤ new.place
+  pub inside : old.place ≤ old.end → new.place ≤ old.end
+
 -- an address has 2, 4 or 8 bytes
 abbrev pub IsAddressSize : ℕ → Type 0
 IsAddressSize size = (size ≡ 2) ⊎ (size ≡ 4) ⊎ (size ≡ 8)
 
 abbrev pub is_address_size : ℕ → Bool
 is_address_size size = size == 2 || (size == 4 || size == 8)
+
+-- the address of so many bytes that a sum stands for: the sum modulo 2 to the power of its bits
+unfoldable pub wrapped_address : ℕ → ℕ → ℕ
+wrapped_address size sum = sum % 2 ^ (8 * size)
 
 -- The number of the first n bytes: the sum of each byte times 256 to the power of its place, which
 -- counts from the first byte (little) or from the last of the n (big).
@@ -112,13 +123,15 @@ uleb_at s = leb_upto unsigned_of s (last_group (rest_of s))
 unfoldable pub sleb_at : Reader ℤ
 sleb_at s = leb_upto signed_of s (last_group (rest_of s))
 
--- A LEB128 number by what its bytes mean: an answer is what the bytes up to the new place spell, and
--- fits; no answer means that the number doesn't end, or that what its bytes spell doesn't fit.
-abbrev pub Spells : {X : Type 0} → (List ℕ → X → Type 0) → (X → Type 0) → Result X Fault → Span → Span → Type 0
+-- A LEB128 number by what its bytes mean: an answer is what the bytes up to the new place spell,
+-- and fits; no answer means that the number doesn't end, or that what its bytes spell doesn't fit.
+abbrev pub Spells : {X : Type 0} → (List ℕ → X → Type 0) → (X → Type 0) → Result X Fault
+    → Span → Span → Type 0
 Spells means fits (Ok x) old new = means (take (new.place - old.place) (rest_of old)) x × fits x
 Spells {X = X} means fits (Err f) old new =
     ((f ≡ fault Truncated old.place) × All (λ b. 128 ≤ b) (rest_of old))
-    ⊎ ((f ≡ fault LebTooLarge old.place) × (n : ℕ) × (x : X) × means (take n (rest_of old)) x × (fits x → ⊥))
+    ⊎ ((f ≡ fault LebTooLarge old.place)
+    × (n : ℕ) × (x : X) × means (take n (rest_of old)) x × (fits x → ⊥))
 
 -- the bytes before the next zero byte, which is passed too
 unfoldable pub text_at : Reader (List ℕ)

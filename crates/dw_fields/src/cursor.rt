@@ -8,18 +8,20 @@ ghost use Rattle.dw_fields.specs.Reading.{Gives, IsAddressSize, Moves, Spells, b
 use crate::byte_order::Order;
 use crate::fault_code::{Code, Fault};
 use crate::leb128::{last_group, signed_value, unsigned_value};
-use byteorder::{BigEndian, ByteOrder, LittleEndian};
 use std::marker::Model;
+use string_tables::first_zero;
 
-/// An initial length (DWARF 5 section 7.4): the number of bytes behind it, and whether it is one of
-/// the 64-bit format.
+/// An initial length (DWARF 5 section 7.4).
 #[derive(Clone, Copy, Debug, PartialEq, Eq)]
 pub struct Length {
+    /// Whether it is of the 64-bit format.
     pub wide: bool,
+    /// The number of bytes behind it.
     pub value: u64,
 }
 
-/// A part of a section that is read from front to back. Places are offsets from the section's start.
+/// A part of a section that is read from front to back. Places are offsets from the section's
+/// start.
 #[derive(Drop)]
 pub struct Cut<'a> {
     bytes: &'a [u8],
@@ -34,7 +36,12 @@ impl<'a> Model for Cut<'a> {
 
     ghost Value = { Span };
 
-    ghost view = { λ c. record { bytes = c.bytes.now; place = c.place; end = c.end; order = c.order } };
+    ghost view = { λ c. record {
+      bytes = c.bytes.now;
+      place = c.place;
+      end = c.end;
+      order = c.order;
+    } };
 
     ghost invariant = { λ c. (c.place ≤ c.end) × (c.end ≤ length c.bytes.now) };
 }
@@ -45,7 +52,12 @@ impl<'a> Cut<'a> {
     pub fn new(bytes: &'a [u8], place: u64, end: u64, order: Order) -> Cut<'a>
         requires begins { place ≤ end }
         requires ends { end ≤ length bytes.now }
-        ensures { result ≡ record { bytes = bytes.entry.now; place = place; end = end; order = order } }
+        ensures { result ≡ record {
+          bytes = bytes.entry.now;
+          place = place;
+          end = end;
+          order = order;
+        } }
     {
         Cut {
             bytes,
@@ -130,10 +142,7 @@ impl<'a> Cut<'a> {
     {
         let start = self.place;
         if n > self.end - start {
-            return Err(Fault {
-                code: Code::Truncated,
-                place: start,
-            });
+            return Err(Fault::at(Code::Truncated, start));
         }
         let bytes = self.bytes;
         self.place = start + n;
@@ -166,10 +175,7 @@ impl<'a> Cut<'a> {
     {
         let order = self.order;
         let field = self.bytes(2)?;
-        Ok(match order {
-            Order::Little => LittleEndian::read_u16(field),
-            Order::Big => BigEndian::read_u16(field),
-        })
+        Ok(order.u16(field))
     }
 
     /// A number of 3 bytes.
@@ -184,10 +190,7 @@ impl<'a> Cut<'a> {
     {
         let order = self.order;
         let field = self.bytes(3)?;
-        Ok(match order {
-            Order::Little => LittleEndian::read_u24(field),
-            Order::Big => BigEndian::read_u24(field),
-        })
+        Ok(order.u24(field))
     }
 
     /// A number of 4 bytes.
@@ -202,10 +205,7 @@ impl<'a> Cut<'a> {
     {
         let order = self.order;
         let field = self.bytes(4)?;
-        Ok(match order {
-            Order::Little => LittleEndian::read_u32(field),
-            Order::Big => BigEndian::read_u32(field),
-        })
+        Ok(order.u32(field))
     }
 
     /// A number of 8 bytes.
@@ -220,10 +220,7 @@ impl<'a> Cut<'a> {
     {
         let order = self.order;
         let field = self.bytes(8)?;
-        Ok(match order {
-            Order::Little => LittleEndian::read_u64(field),
-            Order::Big => BigEndian::read_u64(field),
-        })
+        Ok(order.u64(field))
     }
 
     /// A number of 16 bytes.
@@ -238,10 +235,7 @@ impl<'a> Cut<'a> {
     {
         let order = self.order;
         let field = self.bytes(16)?;
-        Ok(match order {
-            Order::Little => LittleEndian::read_u128(field),
-            Order::Big => BigEndian::read_u128(field),
-        })
+        Ok(order.u128(field))
     }
 
     /// An address of `size` bytes.
@@ -256,14 +250,8 @@ impl<'a> Cut<'a> {
         ensures fits { IfOk result (λ x. x < 2 ^ (8 * size)) }
     {
         match size {
-            2 => match self.u16() {
-                Ok(address) => Ok(u64::from(address)),
-                Err(fault) => Err(fault),
-            },
-            4 => match self.u32() {
-                Ok(address) => Ok(u64::from(address)),
-                Err(fault) => Err(fault),
-            },
+            2 => Ok(u64::from(self.u16()?)),
+            4 => Ok(u64::from(self.u32()?)),
             8 => self.u64(),
             _ => unreachable!(),
         }
@@ -283,17 +271,14 @@ impl<'a> Cut<'a> {
         if wide {
             return self.u64();
         }
-        match self.u32() {
-            Ok(offset) => Ok(u64::from(offset)),
-            Err(fault) => Err(fault),
-        }
+        Ok(u64::from(self.u32()?))
     }
 
     /// An initial length.
     ///
     /// # Errors
-    /// At the length's first byte: `Truncated` where the length passes the end, `LengthReserved` where
-    /// its first word is from 0xfffffff0 to 0xfffffffe.
+    /// At the length's first byte: `Truncated` where the length passes the end, `LengthReserved`
+    /// where its first word is from 0xfffffff0 to 0xfffffffe.
     #[tactic(auto, unfolding(crate::specs::Reading::length_at))]
     pub fn length(&mut self) -> Result<Length, Fault>
         ensures field { Gives (λ x. x) result length_at self.old self.new }
@@ -309,20 +294,14 @@ impl<'a> Cut<'a> {
             });
         }
         if word != 0xffff_ffff {
-            return Err(Fault {
-                code: Code::LengthReserved,
-                place: self.place,
-            });
+            return Err(Fault::at(Code::LengthReserved, self.place));
         }
         match ahead.u64() {
             Ok(value) => {
                 *self = ahead;
                 Ok(Length { wide: true, value })
             }
-            Err(fault) => Err(Fault {
-                code: fault.code,
-                place: self.place,
-            }),
+            Err(fault) => Err(Fault::at(fault.code, self.place)),
         }
     }
 
@@ -336,15 +315,12 @@ impl<'a> Cut<'a> {
         ensures moves { OnOk result (Moves 1 self.old self.new) }
     {
         let rest = self.rest();
-        match zero_place(rest) {
+        match first_zero(rest) {
             Some(count) => {
                 self.place += count as u64 + 1;
                 Ok(&rest[..count])
             }
-            None => Err(Fault {
-                code: Code::TextUnended,
-                place: self.place,
-            }),
+            None => Err(Fault::at(Code::TextUnended, self.place)),
         }
     }
 
@@ -392,15 +368,9 @@ impl<'a> Cut<'a> {
                     self.place += last as u64 + 1;
                     Ok(value)
                 }
-                None => Err(Fault {
-                    code: Code::LebTooLarge,
-                    place: self.place,
-                }),
+                None => Err(Fault::at(Code::LebTooLarge, self.place)),
             },
-            None => Err(Fault {
-                code: Code::Truncated,
-                place: self.place,
-            }),
+            None => Err(Fault::at(Code::Truncated, self.place)),
         }
     }
 
@@ -418,15 +388,9 @@ impl<'a> Cut<'a> {
                     self.place += last as u64 + 1;
                     Ok(value)
                 }
-                None => Err(Fault {
-                    code: Code::LebTooLarge,
-                    place: self.place,
-                }),
+                None => Err(Fault::at(Code::LebTooLarge, self.place)),
             },
-            None => Err(Fault {
-                code: Code::Truncated,
-                place: self.place,
-            }),
+            None => Err(Fault::at(Code::Truncated, self.place)),
         }
     }
 
@@ -437,11 +401,4 @@ impl<'a> Cut<'a> {
     {
         &self.bytes[self.place as usize..self.end as usize]
     }
-}
-
-fn zero_place(bytes: &[u8]) -> Option<usize>
-    ensures place { result ≡ position (λ b. b == 0) bytes.now }
-    ensures within { IfSome result (λ n. n < length bytes.now) }
-{
-    bytes.iter().position(|byte| *byte == 0)
 }

@@ -1,7 +1,7 @@
 //! The faults of the readers: a code and the place of the field.
 
 ghost use Rattle.std.specs.Prelude.{◌≡◌};
-ghost use Rattle.dw_fields.specs.Codes.{code_number, renamed_fault};
+ghost use Rattle.dw_fields.specs.Codes.{code_number, fault, renamed_fault};
 ghost use Rattle.dw_fields.specs.Reading.{renamed as renamed_in};
 
 /// Why a section can't be read on, one variant for each cause. The number is the one that the
@@ -69,7 +69,9 @@ pub enum Code {
 /// A refusal of a section's bytes: the cause, and the offset of the field from the section's start.
 #[derive(Clone, Copy, Debug, PartialEq, Eq)]
 pub struct Fault {
+    /// What is wrong.
     pub code: Code,
+    /// Where: the field's offset from the section's start.
     pub place: u64,
 }
 
@@ -111,8 +113,18 @@ impl Code {
     }
 }
 
-/// The answer of a reader under another name: a fault of the cause `from` gets the cause `to`, at the
-/// same place, and all else stays.
+impl Fault {
+    /// The refusal for this cause of the field at `place`.
+    #[inline]
+    pub fn at(code: Code, place: u64) -> Fault
+        ensures { result ≡ fault code place }
+    {
+        Fault { code, place }
+    }
+}
+
+/// The answer of a reader under another name: a fault of the cause `from` gets the cause `to`, at
+/// the same place, and all else stays.
 #[inline]
 pub fn renamed<T>(read: Result<T, Fault>, from: Code, to: Code) -> Result<T, Fault>
     ensures { result ≡ renamed_in from to read }
@@ -127,11 +139,8 @@ pub fn renamed<T>(read: Result<T, Fault>, from: Code, to: Code) -> Result<T, Fau
 fn renamed_fault(fault: Fault, from: Code, to: Code) -> Fault
     ensures { result ≡ renamed_fault from to fault }
 {
-    if fault.code.number() == from.number() {
-        Fault {
-            code: to,
-            place: fault.place,
-        }
+    if fault.code == from {
+        Fault::at(to, fault.place)
     } else {
         fault
     }

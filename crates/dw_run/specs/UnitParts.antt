@@ -7,7 +7,7 @@ use Rattle.entry_tree.specs.Units.{entries_of, facts_of}
 use Rattle.entry_tree.specs.Views.{EntryView}
 use Rattle.form_values.specs.declared.raw.UnitFacts.{UnitFacts}
 use Rattle.line_text.specs.LineTable.{lines_text}
-use Rattle.unit_headers.specs.declared.fields.UnitHeader.{UnitHeader}
+use Rattle.unit_headers.specs.declared.header.UnitHeader.{UnitHeader}
 use Rattle.unit_headers.specs.Headers.{header_at, unit_count}
 use Rattle.unit_headers.specs.Units.{Units}
 use Rattle.unit_text.specs.Lists.{lists_text}

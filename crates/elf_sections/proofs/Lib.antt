@@ -1,3 +1,2 @@
-pub mod Ends
 pub mod First
-pub mod Named
+pub mod Rows

@@ -1,7 +1,7 @@
 //! Worked files: one without sections, and one with `.debug_info` and the names' section.
 
-use crate::string_table::StringTable;
-use crate::{Elf, ElfRefusal, OpenRefusal};
+use crate::{Elf, ElfRefusal, OpenRefusal, Sections};
+use dw_fields::Order;
 use std::alloc::Global;
 use std::test::Fail;
 
@@ -99,27 +99,21 @@ fn refuses_in_order(rt: HostRuntime) {
 }
 
 #[test]
-fn texts_end_behind_their_block(rt: HostRuntime) -> Result<(), Fail> {
-    let mut bytes = [b'a'; 600];
-    bytes[130] = 0;
-    bytes[450] = 0;
-    let table = StringTable::new(rt.alloc(), &bytes)?;
-    for (place, length) in [
-        (0, Some(130)),
-        (127, Some(3)),
-        (130, Some(0)),
-        (131, Some(319)),
-        (256, Some(194)),
-        (449, Some(1)),
-        (451, None),
-        (599, None),
-        (600, None),
+fn refusals_are_told_in_words(rt: HostRuntime) -> Result<(), Fail> {
+    let alloc = rt.alloc();
+    for (refusal, words) in [
+        (ElfRefusal::NotElf, "not an ELF file"),
+        (
+            ElfRefusal::SectionBounds(12),
+            "section 12 past the end of the file",
+        ),
+        (ElfRefusal::Compressed(3), "section 3 is compressed"),
     ] {
-        assert_eq!(rt;
-            table.text_at(place).map(|text| text.len()),
-            length,
-            "place {place}"
-        );
+        let told = format!(in alloc; "{}", OpenRefusal::from(refusal))?;
+        assert_eq!(rt; told.as_str(), words);
     }
+    let told = format!(in alloc; "{}", OpenRefusal::OutOfMemory)?;
+    assert_eq!(rt; told.as_str(), "out of memory");
+    assert!(rt; Sections::none(Order::Little).text.is_none());
     Ok(())
 }

@@ -4,7 +4,7 @@ use Rattle.dw_fields.specs.declared.fault_code.Fault.{Fault}
 use Rattle.dw_fields.specs.Span.{Span}
 use Rattle.dw_fields.specs.Reading.{IsAddressSize}
 use Rattle.elf_sections.specs.Shapes.{SectionsView}
-use Rattle.unit_headers.specs.declared.fields.UnitHeader.{UnitHeader}
+use Rattle.unit_headers.specs.declared.header.UnitHeader.{UnitHeader}
 use Rattle.unit_headers.specs.Headers.{HasShape}
 use Rattle.form_values.specs.declared.raw.UnitFacts.{UnitFacts}
 use Rattle.form_values.specs.View.{widths_of}

@@ -3,7 +3,7 @@ use Rattle.std.specs.Prelude.{ℕ, ℤ, Bool, true, false, List}
 use Rattle.form_values.specs.declared.raw.Raw.{Raw}
 use Rattle.form_values.specs.declared.raw.Raw.TheVariants as raws
 use Rattle.form_values.specs.declared.raw.Widths.{Widths}
-use Rattle.unit_headers.specs.declared.fields.UnitHeader.{UnitHeader}
+use Rattle.unit_headers.specs.declared.header.UnitHeader.{UnitHeader}
 
 -- a value as it stands in the entry, before an offset or an index in it is followed
 pub data RawView : Type 0 where

@@ -8,7 +8,7 @@ use Rattle.line_machine.specs.declared.registers.Row.{Row}
 use Rattle.line_machine.specs.Running.{line_rows}
 use Rattle.line_programs.specs.Headers.{line_header_of}
 use Rattle.line_programs.specs.Shapes.{LineView}
-use Rattle.unit_headers.specs.declared.fields.UnitHeader.{UnitHeader}
+use Rattle.unit_headers.specs.declared.header.UnitHeader.{UnitHeader}
 use Rattle.unit_text.specs.Pieces.{Text}
 use Rattle.line_text.specs.Names.{directories_text, files_text}
 use Rattle.line_text.specs.Rows.{rows_text}

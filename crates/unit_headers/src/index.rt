@@ -1,11 +1,11 @@
 //! The index of a section's units.
 
-ghost use Rattle.std.specs.Prelude.{◌≡◌, ◌<◌, ◌≤◌, ◌^◌, length, IfOk};
-ghost use Rattle.unit_headers.specs.Laws.{LiesIn};
+ghost use Rattle.std.specs.Prelude.{◌≡◌, ◌+◌, ◌<◌, ◌≤◌, ◌^◌, length, IfOk};
+ghost use Rattle.unit_headers.specs.Links.{LiesIn};
 ghost use Rattle.unit_headers.specs.Headers.{HasShape, header_at, linked_header, unit_count};
 
-use crate::chain::{Link, read_links};
-use crate::fields::{UnitHeader, read_header};
+use crate::chain::{Link, UNIT_LIMIT, read_links};
+use crate::header::{UnitHeader, read_header};
 use dw_fields::{Cut, Fault, Order};
 use std::alloc::{AllocError, Global};
 use std::marker::Model;
@@ -26,9 +26,14 @@ impl<'f> Model for UnitIndex<'f> {
 
     ghost Value = { Units };
 
-    ghost view = { λ x. record { info = x.info.now; order = x.order; abbrev_length = x.abbrev_length } };
+    ghost view = { λ x. record {
+      info = x.info.now;
+      order = x.order;
+      abbrev_length = x.abbrev_length;
+    } };
 
-    ghost invariant = { λ x. (x.links.items ≡ unit_chain x.info.now x.order) × (x.abbrev_length < 2 ^ 32) };
+    ghost invariant = { λ x. (x.links.items ≡ unit_chain x.info.now x.order)
+        × (x.abbrev_length < 2 ^ 32) };
 }
 
 impl<'f> UnitIndex<'f> {
@@ -44,24 +49,26 @@ impl<'f> UnitIndex<'f> {
         order: Order,
     ) -> Result<UnitIndex<'f>, AllocError>
         requires { abbrev_length < 2 ^ 32 }
-        ensures { IfOk result (λ index. index ≡ record { info = info.entry.now; order = order; abbrev_length = abbrev_length }) }
+        ensures { IfOk result (λ index. index ≡ record {
+          info = info.entry.now;
+          order = order;
+          abbrev_length = abbrev_length;
+        }) }
     {
-        match read_links(alloc, info, order) {
-            Ok(links) => Ok(UnitIndex {
-                info,
-                order,
-                abbrev_length,
-                links,
-            }),
-            Err(error) => Err(error),
-        }
+        let links = read_links(alloc, info, order)?;
+        Ok(UnitIndex {
+            info,
+            order,
+            abbrev_length,
+            links,
+        })
     }
 
     /// The number of units, with the last one that can't be followed.
-    #[tactic(auto, using(crate::specs::Laws::chain_limit), unfolding(crate::specs::Headers::unit_count))]
+    #[tactic(auto, using(crate::proofs::UnitLaws::chain_limit), unfolding(crate::specs::Headers::unit_count))]
     pub fn count(&self) -> u32
         ensures count { result ≡ unit_count self.now.info self.now.order }
-        ensures limit { result ≤ 131073 }
+        ensures limit { result ≤ UNIT_LIMIT + 1 }
     {
         self.links.len() as u32
     }
@@ -73,11 +80,12 @@ impl<'f> UnitIndex<'f> {
     /// limit, `LengthReserved` and `UnitTruncated` where the chain can't be followed. Else at the
     /// field: `UnitTruncated` where it passes the unit's end, `UnitVersion`, `UnitType`,
     /// `AddressSize`, `AbbrevOutside`.
-    #[tactic(auto, using(crate::specs::Laws::header_met))]
+    #[tactic(auto, using(crate::proofs::UnitLaws::header_met))]
     pub fn header(&self, i: u32) -> Result<UnitHeader, Fault>
         requires { i < unit_count self.now.info self.now.order }
         ensures header { result ≡ header_at self.now.info self.now.order self.now.abbrev_length i }
-        ensures shape { IfOk result (λ h. HasShape (length self.now.info) self.now.abbrev_length i h) }
+        ensures shape { IfOk result
+            (λ h. HasShape (length self.now.info) self.now.abbrev_length i h) }
     {
         match self.link(i) {
             Link::Whole {
@@ -96,10 +104,11 @@ impl<'f> UnitIndex<'f> {
         }
     }
 
-    #[tactic(auto, using(crate::specs::Laws::linked_met, crate::specs::Laws::linked_inside), unfolding(crate::specs::Headers::unit_count))]
+    #[tactic(auto, using(crate::proofs::UnitLaws::linked_met, crate::proofs::UnitLaws::linked_inside), unfolding(crate::specs::Headers::unit_count))]
     fn link(&self, i: u32) -> Link
         requires { i < unit_count self.now.info self.now.order }
-        ensures header { linked_header self.now.info self.now.order self.now.abbrev_length i result ≡ header_at self.now.info self.now.order self.now.abbrev_length i }
+        ensures header { linked_header self.now.info self.now.order self.now.abbrev_length i result
+            ≡ header_at self.now.info self.now.order self.now.abbrev_length i }
         ensures inside { LiesIn (length self.now.info) result }
     {
         self.links[i as usize]

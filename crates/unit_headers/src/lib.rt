@@ -1,4 +1,5 @@
-//! The units of `.debug_info`: the chain of their lengths, and their headers (DWARF 5 section 7.5.1).
+//! The units of `.debug_info`: the chain of their lengths, and their headers (DWARF 5 section
+//! 7.5.1).
 //!
 //! [`UnitIndex::read`] follows the chain of lengths from the section's start. [`UnitIndex::header`]
 //! answers the header of one unit, or the first refusal in byte order. Which units there are is
@@ -7,13 +8,14 @@
 #![tactic(auto)]
 
 mod chain;
-mod fields;
+mod header;
 mod index;
 mod kind;
 mod laws;
 mod refusal;
 
-pub use fields::UnitHeader;
+pub use chain::UNIT_LIMIT;
+pub use header::UnitHeader;
 pub use index::UnitIndex;
 pub use kind::{Extra, UnitKind};
 pub use laws::{header_keeps_its_shape, links_tile_the_section};

@@ -16,7 +16,7 @@ use Rattle.form_values.specs.declared.raw.UnitFacts.{UnitFacts}
 use Rattle.range_lists.specs.declared.bounds.Range.{Range}
 use Rattle.range_lists.specs.Locations.{LocationView, locations_of}
 use Rattle.range_lists.specs.Ranges.{ranges_of}
-use Rattle.unit_headers.specs.declared.fields.UnitHeader.{UnitHeader}
+use Rattle.unit_headers.specs.declared.header.UnitHeader.{UnitHeader}
 use Rattle.unit_text.specs.declared.lists.Unit.{Unit as UnitParts}
 use Rattle.unit_text.specs.Pieces.{Text, joined, texts_of}
 

@@ -2,7 +2,7 @@
 use Rattle.std.specs.Prelude.{ℕ, Bool, if◌then◌else◌, List, [], ◌∷◌, ◌++◌, codes}
 use Rattle.dw_text.specs.Added.{labelled}
 use Rattle.dw_text.specs.Numbers.{decimal, hex, sixteen}
-use Rattle.unit_headers.specs.declared.fields.UnitHeader.{UnitHeader}
+use Rattle.unit_headers.specs.declared.header.UnitHeader.{UnitHeader}
 use Rattle.unit_headers.specs.declared.kind.Extra.{Extra}
 use Rattle.unit_headers.specs.declared.kind.Extra.TheVariants.{Nothing, Id, Signature}
 use Rattle.unit_headers.specs.declared.kind.UnitKind.{UnitKind}

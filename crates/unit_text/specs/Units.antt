@@ -4,7 +4,7 @@ use Rattle.std.specs.Prelude.{ℕ, List, [], ◌∷◌, ◌++◌, Ok, codes}
 use Rattle.dw_text.specs.Added.{labelled}
 use Rattle.dw_text.specs.Numbers.{decimal, hex}
 use Rattle.dw_names.specs.Texts.{tag_text, attribute_text}
-use Rattle.unit_headers.specs.declared.fields.UnitHeader.{UnitHeader}
+use Rattle.unit_headers.specs.declared.header.UnitHeader.{UnitHeader}
 use Rattle.elf_sections.specs.Shapes.{SectionsView}
 use Rattle.form_values.specs.declared.raw.Bases.{Bases}
 use Rattle.entry_tree.specs.Views.{AttrView, EntryView}

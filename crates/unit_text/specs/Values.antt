@@ -6,7 +6,7 @@ use Rattle.dw_text.specs.Added.{labelled}
 use Rattle.dw_text.specs.Numbers.{decimal, hex, signed, sixteen}
 use Rattle.dw_text.specs.Escapes.{escaped}
 use Rattle.dw_text.specs.Bytes.{hex_bytes}
-use Rattle.unit_headers.specs.declared.fields.UnitHeader.{UnitHeader}
+use Rattle.unit_headers.specs.declared.header.UnitHeader.{UnitHeader}
 use Rattle.elf_sections.specs.Shapes.{SectionsView}
 use Rattle.form_values.specs.declared.raw.Bases.{Bases}
 use Rattle.form_values.specs.View.{RawView, Address, AddressIndex, Block, Expression, Unsigned, Signed, Wide, Flag, TextOffset, LineTextOffset, TextIndex, Local, Global, Signature, Offset, RangeIndex, LocationIndex, Supplement}

@@ -5,7 +5,7 @@ use Rattle.unit_draws.specs.Windows.{window_count}
 use Rattle.unit_draws.specs.Seats.{occurrences, DrawsView, SeatView, IsSeatOf, KeepsNumbers}
 
 -- the seat belongs to the draws, has its numbers still, and saw each window end
-pub record IsDone (draws : DrawsView) (before : DrawView) (seat : SeatView) : Type 0 where
+pub record HasDrawnAll (draws : DrawsView) (before : DrawView) (seat : SeatView) : Type 0 where
   pub of_draws : IsSeatOf draws seat
   pub numbers : KeepsNumbers before seat.knows
   pub ended : (w : ℕ) → w < window_count draws.sizes.units → 0 < occurrences w seat.knows.ended

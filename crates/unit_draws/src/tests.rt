@@ -2,7 +2,7 @@
 //! windows there are.
 ghost use Rattle.std.specs.Prelude.{◌≡◌, ◌≢◌, ◌<◌, ◌≤◌, ℕ, List, [], ◌∷◌, ◌++◌, length, OnOk, IfOk};
 ghost use Rattle.unit_draws.specs.Windows.{window_count};
-ghost use Rattle.unit_draws.specs.TestStates.{IsDone};
+ghost use Rattle.unit_draws.specs.TestStates.{HasDrawnAll};
 ghost use Rattle.unit_draws.specs.Seats.{occurrences, IsSeatOf, KeepsNumbers, HasEverySeat, HasDrawnWindow};
 
 use crate::{DrawSeat, Draws, WINDOW, count_windows};
@@ -69,18 +69,18 @@ impl Worker {
 fn two_workers<R: Threads>(rt: &R, draws: &Draws, one: Worker, other: Worker) -> WorkerPair
     requires first { IsSeatOf draws.now one.seat × (one.seat.knows.ended ≡ []) }
     requires second { IsSeatOf draws.now other.seat × (other.seat.knows.ended ≡ []) }
-    ensures first { IfOk result.0 (λ w. IsDone draws.now one.seat.knows w.seat) }
-    ensures second { IfOk result.1 (λ w. IsDone draws.now other.seat.knows w.seat) }
+    ensures first { IfOk result.0 (λ w. HasDrawnAll draws.now one.seat.knows w.seat) }
+    ensures second { IfOk result.1 (λ w. HasDrawnAll draws.now other.seat.knows w.seat) }
 {
     join(
         rt,
         move || -> Result<Worker, AllocError>
             requires { IsSeatOf draws.now one.seat × (one.seat.knows.ended ≡ []) }
-            ensures { IfOk result (λ w. IsDone draws.entry.now one.seat.knows w.seat) }
+            ensures { IfOk result (λ w. HasDrawnAll draws.entry.now one.seat.knows w.seat) }
         { one.draw_all(draws) },
         move || -> Result<Worker, AllocError>
             requires { IsSeatOf draws.now other.seat × (other.seat.knows.ended ≡ []) }
-            ensures { IfOk result (λ w. IsDone draws.entry.now other.seat.knows w.seat) }
+            ensures { IfOk result (λ w. HasDrawnAll draws.entry.now other.seat.knows w.seat) }
         { other.draw_all(draws) },
     )
 }

@@ -4,13 +4,13 @@ use Rattle.unit_draws.specs.declared.tests.Worker.{Worker}
 use Rattle.unit_draws.specs.declared.view.DrawSizes.{DrawSizes}
 use Rattle.unit_draws.specs.declared.view.DrawView.{DrawView}
 use Rattle.unit_draws.specs.Windows.{window_count}
-use Rattle.unit_draws.specs.TestStates.{IsDone}
+use Rattle.unit_draws.specs.TestStates.{HasDrawnAll}
 use Rattle.unit_draws.specs.Seats.{occurrences, first_seat, with_less_spare, seat_split_off, with_seat, KeepsNumbers, HasEverySeat, DrawsView}
 use Rattle.unit_draws.proofs.Occurrences.{occurrences-append}
 use Rattle.unit_draws.proofs.tests.drawn_by_two.Goals as goal
 
-done : (draws : DrawsView) (before : DrawView) (r : Result Worker AllocError) (w : Worker) → r ≡ Ok w → IfOk r (λ (x : Worker). IsDone draws before x.seat) → IsDone draws before w.seat
-done draws before r w was all = subst (λ (x : Result Worker AllocError). IfOk x (λ (y : Worker). IsDone draws before y.seat)) was all
+done : (draws : DrawsView) (before : DrawView) (r : Result Worker AllocError) (w : Worker) → r ≡ Ok w → IfOk r (λ (x : Worker). HasDrawnAll draws before x.seat) → HasDrawnAll draws before w.seat
+done draws before r w was all = subst (λ (x : Result Worker AllocError). IfOk x (λ (y : Worker). HasDrawnAll draws before y.seat)) was all
 
 -- the two seats of two draws have every number
 two_seats : (sizes : DrawSizes) (first second one other both : DrawView) → sizes.seats ≡ 2 → one.seats ≡ sizes.seats → first ≡ with_less_spare (first_seat sizes) → second ≡ seat_split_off (first_seat sizes) → KeepsNumbers first one → KeepsNumbers second other

@@ -15,10 +15,8 @@ pub(crate) fn push_directories(out: &mut Vec<u8>, directories: &[&[u8]]) -> Resu
 {
     let mut number = 0;
     'directories: for directory in directories {
-        match push_directory(out, number, directory) {
-            Ok(()) => number += 1,
-            Err(error) => return Err(error),
-        }
+        push_directory(out, number, directory)?;
+        number += 1;
     }
     Ok(())
 }
@@ -29,10 +27,8 @@ pub(crate) fn push_files(out: &mut Vec<u8>, files: &[FileName<'_>]) -> Result<()
 {
     let mut number = 0;
     'files: for file in files {
-        match push_file(out, number, file) {
-            Ok(()) => number += 1,
-            Err(error) => return Err(error),
-        }
+        push_file(out, number, file)?;
+        number += 1;
     }
     Ok(())
 }

@@ -14,10 +14,7 @@ pub(crate) fn push_rows(out: &mut Vec<u8>, rows: &[Row]) -> Result<(), AllocErro
 {
     let mut line = LineBuffer::new();
     'rows: for row in rows {
-        match push_row(out, &mut line, row) {
-            Ok(()) => {}
-            Err(error) => return Err(error),
-        }
+        push_row(out, &mut line, row)?;
     }
     Ok(())
 }

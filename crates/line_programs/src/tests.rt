@@ -172,10 +172,15 @@ fn paths_in_another_section_are_found_by_walks_and_by_the_table(rt: HostRuntime)
 
 #[test]
 fn a_path_outside_its_section_or_without_an_end_is_refused(rt: HostRuntime) {
-    let cases = [(3, 42, 0x2c), (6, 43, 0x2c), (2, 43, 0x22), (0, 42, 0x22)];
-    for (length, number, place) in cases {
+    let cases = [
+        (&PATHS[..3], 42, 0x2c), // the file's path begins at the section's end
+        (&PATHS[..6], 43, 0x2c), // the file's path has no end
+        (&PATHS[..2], 43, 0x22), // nor has the directory's
+        (&PATHS[..0], 42, 0x22),
+    ];
+    for (paths, number, place) in cases {
         let mut file = sections(Some(&FAR_LINES));
-        file.line_text = Some(&PATHS[..length]);
+        file.line_text = Some(paths);
         let refused = LineHeader::read(rt.alloc(), &file, &UNIT, 0).err();
         assert!(rt; refused.map(number_and_place) == Some((number, place)));
     }

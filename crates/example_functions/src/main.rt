@@ -1,7 +1,7 @@
 //! Prints the functions of an ELF file with their addresses: a program over the library.
 //!
-//! It opens the file that it is given, goes over its units and over the entries of each, and follows
-//! the name and the address of each function to what they stand for.
+//! It opens the file that it is given, goes over its units and over the entries of each, and
+//! follows the name and the address of each function to what they stand for.
 #![tactic(auto)]
 
 ghost use Rattle.dw_fields.specs.Reading.{IsAddressSize};

@@ -11,9 +11,9 @@ use dw_fields::Cut;
 use elf_sections::Sections;
 use form_values::Widths;
 
-/// Where a content type is repeated among an entry's formats (DWARF 5 section 6.2.4.1), its last value
-/// counts: the path of the entry is the text that its last path stands for, and its directory the
-/// number of its last directory index.
+/// Where a content type is repeated among an entry's formats (DWARF 5 section 6.2.4.1), its last
+/// value counts: the path of the entry is the text that its last path stands for, and its directory
+/// the number of its last directory index.
 #[tactic(auto, using(crate::proofs::LastLaws::last_counts))]
 pub fn last_value_of_a_content_type_counts(
     sections: &Sections<'_>,

@@ -28,19 +28,8 @@ const PATHS: [u8; 7] = *b"/s\0a.c\0";
 
 fn sections(line: Option<&[u8]>) -> Sections<'_> {
     Sections {
-        order: Order::Little,
-        info: b"",
-        abbrev: b"",
-        text: None,
-        line_text: None,
-        text_offsets: None,
-        address: None,
-        range_lists: None,
-        location_lists: None,
         line,
-        ranges: None,
-        locations: None,
-        frame: None,
+        ..Sections::none(Order::Little)
     }
 }
 

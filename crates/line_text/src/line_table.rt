@@ -38,8 +38,8 @@ pub fn write_lines(
     write_lines_with(alloc, &mut texts, header, facts, out)
 }
 
-/// Appends the same, with the finder of texts that the tables of the file's other units were written
-/// with: a run over all units goes over each section of texts twice at most.
+/// Appends the same, with the finder of texts that the tables of the file's other units were
+/// written with: a run over all units goes over each section of texts twice at most.
 ///
 /// # Errors
 /// Those of [`write_lines`]. `out` is then as it was.
@@ -102,7 +102,8 @@ fn push_table(
     program: &LineHeader<'_>,
     rows: &[Row],
 ) -> Result<(), AllocError>
-    ensures { Adds result out.old.items out.new.items (table_text unit offset program.now rows.now) }
+    ensures { Adds result out.old.items out.new.items
+        (table_text unit offset program.now rows.now) }
 {
     push_head(out, unit, offset)?;
     push_directories(out, program.directories())?;

@@ -11,7 +11,8 @@ use std::alloc::AllocError;
 
 /// Appends a line for each directory, numbered from 0.
 pub(crate) fn push_directories(out: &mut Vec<u8>, directories: &[&[u8]]) -> Result<(), AllocError>
-    ensures { Adds result out.old.items out.new.items (directories_text (map (λ d. d.now) directories.now)) }
+    ensures { Adds result out.old.items out.new.items
+        (directories_text (map (λ d. d.now) directories.now)) }
 {
     let mut number = 0;
     'directories: for directory in directories {

@@ -176,6 +176,25 @@ fn a_path_outside_its_section_or_without_an_end_is_refused(rt: HostRuntime) {
 }
 
 #[test]
+fn a_refusal_says_in_words_what_was_wrong_and_where(rt: HostRuntime) {
+    let mut line = LINES;
+    line[0x27] = 0x16;
+    let refused = LineHeader::read(rt.alloc(), &sections(Some(&line)), &UNIT, 0).err();
+    let refusals = [
+        (
+            refused,
+            "form that cannot stand in a file or directory entry at offset 0x27",
+        ),
+        (Some(UnitRefusal::OutOfMemory), "out of memory"),
+    ];
+    for (refusal, wanted) in refusals {
+        let refusal = refusal.expect(&rt, "a refusal");
+        let text = format!(in rt.alloc(); "{refusal}").expect(&rt, "memory");
+        assert!(rt; text.as_str() == wanted);
+    }
+}
+
+#[test]
 fn const_add_pc_advances_as_the_greatest_special_opcode(rt: HostRuntime) {
     let mut line = LINES;
     line[0x41] = 0x08;

@@ -1,7 +1,7 @@
 use Rattle.std.proofs.Common.{subst}
 use Rattle.std.specs.Prelude.{Ok, Err}
 use Rattle.elf_sections.specs.Shapes.{sections_view}
-use Rattle.entry_tree.specs.declared.shapes.Entry.{Entry}
+use Rattle.entry_tree.specs.declared.entry.Entry.{Entry}
 use Rattle.entry_tree.specs.Views.{entry_view}
 use Rattle.unit_text.specs.Pieces.{Text, Puts}
 use Rattle.unit_text.specs.Loops.{texts_map, texts_next, texts_stop, texts_end}

@@ -1,7 +1,7 @@
 use Rattle.std.proofs.Common.{List, ℕ, drop, map, Result}
 use Rattle.elf_sections.specs.Shapes.{sections_view}
 use Rattle.unit_headers.specs.declared.refusal.UnitRefusal.{UnitRefusal}
-use Rattle.entry_tree.specs.declared.shapes.Entry.{Entry}
+use Rattle.entry_tree.specs.declared.entry.Entry.{Entry}
 use Rattle.entry_tree.specs.Views.{entry_view}
 use Rattle.unit_text.specs.Pieces.{Puts, texts_of}
 use Rattle.unit_text.specs.Units.{entry_text, entries_text}

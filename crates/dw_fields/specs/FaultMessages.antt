@@ -8,7 +8,8 @@ use Rattle.dw_fields.specs.declared.fault_code.Fault.{Fault}
 -- what was wrong
 abbrev pub code_message : Code → List ℕ
 code_message LengthReserved = codes "reserved value of an initial length"
-code_message UnitTruncated = codes "unit past the end of its section, or header field past the end of the unit"
+code_message UnitTruncated =
+    codes "unit past the end of its section, or header field past the end of the unit"
 code_message UnitVersion = codes "unit of a version that is not read"
 code_message UnitType = codes "unknown unit type"
 code_message AddressSize = codes "address size other than 2, 4 or 8"

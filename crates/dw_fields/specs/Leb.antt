@@ -16,7 +16,8 @@ signed_group b = if nat_lt b 64 then pos b else (pos b -ℤ pos 128)
 abbrev pub SignedLeb : List ℕ → ℤ → Type 0
 SignedLeb [] z = ⊥
 SignedLeb (b ∷ []) z = (b < 128) × (z ≡ signed_group b)
-SignedLeb (b ∷ c ∷ bytes) z = (128 ≤ b) × (high : ℤ) × (z ≡ pos (b - 128) +ℤ pos 128 *ℤ high) × SignedLeb (c ∷ bytes) high
+SignedLeb (b ∷ c ∷ bytes) z =
+    (128 ≤ b) × (high : ℤ) × (z ≡ pos (b - 128) +ℤ pos 128 *ℤ high) × SignedLeb (c ∷ bytes) high
 
 -- the sum of the groups of all bytes
 abbrev pub leb_sum : List ℕ → ℕ

@@ -3,7 +3,6 @@ pub mod FaultMessages
 pub mod Span
 pub mod Leb
 pub mod Reading
-pub mod Answers
 pub mod ReaderLaws
 pub mod Times
 pub mod Walk

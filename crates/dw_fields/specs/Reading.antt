@@ -1,4 +1,5 @@
--- The fields of a section as functions of its bytes: the value and the place behind it, or the fault.
+-- The fields of a section as functions of its bytes: the value and the place behind it, or the
+-- fault.
 use Rattle.std.specs.Prelude.{◌||◌, All, ◌≡◌, ℕ, ◌+◌, ◌-◌, ◌*◌, ◌%◌, ◌^◌, ◌≤◌, ◌==◌, ◌⊎◌, nat_lt, nat_le, Bool, true, false, cond, if◌then◌else◌, List, take, drop, position, Option, Some, None, Result, Ok, Err, ℤ}
 use Rattle.byteorder.specs.Endian.{little_number, big_number}
 use Rattle.dw_fields.specs.declared.byte_order.Order.{Order}
@@ -39,7 +40,8 @@ abbrev pub placed : {X : Type 0} → ℕ → Result X Fault → Result X Fault
 placed place (Ok x) = Ok x
 placed place (Err f) = Err (fault f.code place)
 
--- The answer is the reader's, seen by `view`; the cut stands behind the field, or as it was at a fault.
+-- The answer is the reader's, seen by `view`; the cut stands behind the field, or as it was at a
+-- fault.
 abbrev pub Gives : {X Y : Type 0} → (X → Y) → Result X Fault → Reader Y → Span → Span → Type 0
 Gives view (Ok x) read old new = (read old ≡ Ok (view x, new.place)) × (new ≡ at old new.place)
 Gives view (Err f) read old new = (read old ≡ Err f) × (new ≡ old)
@@ -121,13 +123,15 @@ uleb_at s = leb_upto unsigned_of s (last_group (rest_of s))
 unfoldable pub sleb_at : Reader ℤ
 sleb_at s = leb_upto signed_of s (last_group (rest_of s))
 
--- A LEB128 number by what its bytes mean: an answer is what the bytes up to the new place spell, and
--- fits; no answer means that the number doesn't end, or that what its bytes spell doesn't fit.
-abbrev pub Spells : {X : Type 0} → (List ℕ → X → Type 0) → (X → Type 0) → Result X Fault → Span → Span → Type 0
+-- A LEB128 number by what its bytes mean: an answer is what the bytes up to the new place spell,
+-- and fits; no answer means that the number doesn't end, or that what its bytes spell doesn't fit.
+abbrev pub Spells : {X : Type 0} → (List ℕ → X → Type 0) → (X → Type 0) → Result X Fault
+    → Span → Span → Type 0
 Spells means fits (Ok x) old new = means (take (new.place - old.place) (rest_of old)) x × fits x
 Spells {X = X} means fits (Err f) old new =
     ((f ≡ fault Truncated old.place) × All (λ b. 128 ≤ b) (rest_of old))
-    ⊎ ((f ≡ fault LebTooLarge old.place) × (n : ℕ) × (x : X) × means (take n (rest_of old)) x × (fits x → ⊥))
+    ⊎ ((f ≡ fault LebTooLarge old.place)
+    × (n : ℕ) × (x : X) × means (take n (rest_of old)) x × (fits x → ⊥))
 
 -- the bytes before the next zero byte, which is passed too
 unfoldable pub text_at : Reader (List ℕ)

@@ -2,7 +2,8 @@
 use Rattle.std.specs.Prelude.{ℕ, List, ◌-◌, take, drop}
 use Rattle.dw_fields.specs.declared.byte_order.Order.{Order}
 
--- the section's bytes, the place of the next field, the end that no field passes, the numbers' order
+-- the section's bytes, the place of the next field, the end that no field passes, and the order of
+-- numbers
 pub record Span : Type 0 where
   pub bytes : List ℕ
   pub place : ℕ

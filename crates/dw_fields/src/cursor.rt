@@ -8,8 +8,8 @@ ghost use Rattle.dw_fields.specs.Reading.{Gives, IsAddressSize, Moves, Spells, b
 use crate::byte_order::Order;
 use crate::fault_code::{Code, Fault};
 use crate::leb128::{last_group, signed_value, unsigned_value};
-use crate::text_end::zero_place;
 use std::marker::Model;
+use string_tables::first_zero;
 
 /// An initial length (DWARF 5 section 7.4).
 #[derive(Clone, Copy, Debug, PartialEq, Eq)]
@@ -250,14 +250,8 @@ impl<'a> Cut<'a> {
         ensures fits { IfOk result (λ x. x < 2 ^ (8 * size)) }
     {
         match size {
-            2 => match self.u16() {
-                Ok(address) => Ok(u64::from(address)),
-                Err(fault) => Err(fault),
-            },
-            4 => match self.u32() {
-                Ok(address) => Ok(u64::from(address)),
-                Err(fault) => Err(fault),
-            },
+            2 => Ok(u64::from(self.u16()?)),
+            4 => Ok(u64::from(self.u32()?)),
             8 => self.u64(),
             _ => unreachable!(),
         }
@@ -277,10 +271,7 @@ impl<'a> Cut<'a> {
         if wide {
             return self.u64();
         }
-        match self.u32() {
-            Ok(offset) => Ok(u64::from(offset)),
-            Err(fault) => Err(fault),
-        }
+        Ok(u64::from(self.u32()?))
     }
 
     /// An initial length.
@@ -324,7 +315,7 @@ impl<'a> Cut<'a> {
         ensures moves { OnOk result (Moves 1 self.old self.new) }
     {
         let rest = self.rest();
-        match zero_place(rest) {
+        match first_zero(rest) {
             Some(count) => {
                 self.place += count as u64 + 1;
                 Ok(&rest[..count])

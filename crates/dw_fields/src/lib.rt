@@ -14,10 +14,8 @@ mod cursor;
 mod fault_code;
 mod fault_message;
 mod leb128;
-mod text_end;
 
 pub use address::wrap_address;
 pub use byte_order::Order;
 pub use cursor::{Cut, Length};
 pub use fault_code::{Code, Fault, renamed};
-pub use text_end::zero_place;

@@ -12,19 +12,23 @@
 #![tactic(auto)]
 
 mod faultless;
+mod file_source;
 mod gates;
 mod memory;
+#[cfg(test)]
+mod real_tests;
 mod stops;
-mod streams;
+mod stream_sink;
 #[cfg(test)]
 mod tests;
 mod traits;
 mod whole;
 
 pub use faultless::{NoFaultSink, NoFaultSource};
+pub use file_source::FileSource;
 pub use gates::OpenGate;
 pub use memory::{MemorySink, MemorySource};
 pub use stops::{ReadStop, WriteStop};
-pub use streams::{FileSource, StreamSink};
+pub use stream_sink::StreamSink;
 pub use traits::{Gate, Sink, Source};
 pub use whole::{read_file, write_all};

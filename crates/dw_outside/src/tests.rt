@@ -1,11 +1,10 @@
-//! Each source and sink once, with memory for all that it takes.
+//! Each source and sink in memory once, with memory for all that it takes.
 
 use crate::{
-    FileSource, Gate, MemorySink, MemorySource, NoFaultSink, NoFaultSource, OpenGate, ReadStop,
-    Sink, Source, StreamSink, WriteStop, read_file, write_all,
+    Gate, MemorySink, MemorySource, NoFaultSink, NoFaultSource, OpenGate, ReadStop, Sink, Source,
+    WriteStop, read_file, write_all,
 };
 use std::alloc::{AllocError, Global};
-use std::io;
 use std::test::Fail;
 
 fn name(alloc: Global) -> Result<String, AllocError> {
@@ -68,15 +67,5 @@ fn sinks_without_faults_take_all(rt: HostRuntime) -> Result<(), Fail> {
     assert_eq!(rt; sink.bytes(), b"abc".as_slice());
     OpenGate.enter(0, 0);
     OpenGate.leave(0, 0);
-    Ok(())
-}
-
-#[test]
-fn real_files_and_streams(rt: HostRuntime) -> Result<(), Fail> {
-    let mut sink = StreamSink::new(io::writer(&rt));
-    assert_eq!(rt; write_all(&mut sink, b""), Ok(()));
-    let mut source = FileSource::new(rt);
-    let absent = read_file(rt.alloc(), &mut source, "no such file", 100);
-    assert!(rt; absent.is_err());
     Ok(())
 }

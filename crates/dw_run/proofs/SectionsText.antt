@@ -1,7 +1,7 @@
 -- The lines of sections, one after another.
 use Rattle.std.proofs.Common.{◌≡◌, ℕ, ◌+◌, ◌<◌, ◌≤◌, List, ◌++◌, map, drop, length, get_or, drop-cons, append_assoc, append-nil, add-one}
 use Rattle.std.proofs.lemmas.List.{drop_all}
-use Rattle.elf_sections.specs.declared.headed.Section.{Section}
+use Rattle.elf_sections.specs.declared.section.Section.{Section}
 use Rattle.elf_sections.specs.Shapes.{row}
 use Rattle.unit_text.specs.SectionLine.{section_line}
 use Rattle.dw_run.specs.Commands.{sections_text}

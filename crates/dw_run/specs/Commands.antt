@@ -1,7 +1,7 @@
 -- What each command tells of a file's sections.
 use Rattle.std.specs.Prelude.{ℕ, ◌+◌, List, [], ◌∷◌, ◌++◌, Option, Some, None}
 use Rattle.dw_fields.specs.declared.fault_code.Fault.{Fault}
-use Rattle.elf_sections.specs.Rows.{ElfView, Row}
+use Rattle.elf_sections.specs.Rows.{ElfView, SectionRow}
 use Rattle.elf_sections.specs.Shapes.{sections_of}
 use Rattle.unit_text.specs.SectionLine.{section_line}
 use Rattle.unit_text.specs.Tables.{tables_text}
@@ -14,7 +14,7 @@ use Rattle.dw_run.specs.Told.{Told, whole}
 use Rattle.dw_run.specs.UnitParts.{units_part_told}
 
 -- the lines of sections, the first of which has this number
-unfoldable pub sections_text : ℕ → List Row → List ℕ
+unfoldable pub sections_text : ℕ → List SectionRow → List ℕ
 sections_text number [] = []
 sections_text number (row ∷ rows) = section_line number row ++ sections_text (number + 1) rows
 

@@ -1,21 +1,8 @@
--- One check after another, and the first refusal among them.
-use Rattle.std.specs.Prelude.{◌≡◌, ℕ, ◌+◌, Bool, cond, if◌then◌else◌, List, [], ◌∷◌, Option, Some, None, Result, Ok, Err}
+-- The first refusal among several, and answers that may want memory.
+use Rattle.std.specs.Prelude.{◌≡◌, ℕ, ◌+◌, Bool, if◌then◌else◌, List, [], ◌∷◌, Option, Some, None, Result, Ok, Err}
 use Rattle.elf_sections.specs.declared.refusals.ElfRefusal.{ElfRefusal}
 use Rattle.elf_sections.specs.declared.refusals.OpenRefusal.{OpenRefusal}
 use Rattle.elf_sections.specs.declared.refusals.OpenRefusal.TheVariants.{Refused, OutOfMemory}
-
-infixl 10 ◌>>=◌
-abbrev pub ◌>>=◌ : {A B : Type 0} → Result A ElfRefusal → (A → Result B ElfRefusal) → Result B ElfRefusal
-Ok a >>= f = f a
-Err e >>= f = Err e
-
-infixl 10 ◌>>◌
-abbrev pub ◌>>◌ : {A B : Type 0} → Result A ElfRefusal → Result B ElfRefusal → Result B ElfRefusal
-a >> b = a >>= (λ _. b)
-
--- the refusal, if the test holds
-abbrev pub refuse : Bool → ElfRefusal → Result (Unit {0}) ElfRefusal
-refuse bad refusal = cond bad (Err refusal) (Ok tt)
 
 -- the refusal of that number, if there is one
 abbrev pub refuse_at : (ℕ → ElfRefusal) → Option ℕ → Result (Unit {0}) ElfRefusal

@@ -1,12 +1,12 @@
 -- How a contract sees sections and the bytes behind their references.
-use Rattle.std.specs.Prelude.{ℕ, ◌<◌, ◌^◌, List, [], Option, length, codes, unwrap_or, option_map, IfSome}
+use Rattle.std.specs.Prelude.{ℕ, ◌<◌, ◌^◌, List, [], Option, None, length, codes, unwrap_or, option_map, IfSome}
 use Rattle.dw_fields.specs.declared.byte_order.Order.{Order}
-use Rattle.elf_sections.specs.declared.headed.Section.{Section}
+use Rattle.elf_sections.specs.declared.section.Section.{Section}
 use Rattle.elf_sections.specs.declared.debug.Sections.{Sections}
-use Rattle.elf_sections.specs.Rows.{Row, ElfView, bytes_named}
+use Rattle.elf_sections.specs.Rows.{SectionRow, ElfView, bytes_named}
 
 -- a section, without where its name and bytes lie
-abbrev pub row : Section → Row
+abbrev pub row : Section → SectionRow
 row s = record { name = s.name.now; kind = s.kind; flags = s.flags; size = s.size; bytes = s.bytes.now }
 
 -- the sections with debugging data: `None` is an absent one
@@ -40,6 +40,24 @@ sections_view s = record {
   ranges = option_map (λ b. b.now) s.ranges;
   locations = option_map (λ b. b.now) s.locations;
   frame = option_map (λ b. b.now) s.frame;
+}
+
+-- no section with debugging data
+abbrev pub no_sections : Order → SectionsView
+no_sections order = record {
+  order = order;
+  info = [];
+  «abbrev» = [];
+  text = None;
+  line_text = None;
+  text_offsets = None;
+  address = None;
+  range_lists = None;
+  location_lists = None;
+  line = None;
+  ranges = None;
+  locations = None;
+  frame = None;
 }
 
 -- the debugging sections of a file by their names (DWARF 5 appendix B): the first of each name. Absent

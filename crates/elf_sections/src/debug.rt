@@ -2,14 +2,14 @@
 
 ghost use Rattle.std.specs.Prelude.{◌≡◌, ◌<◌, ◌^◌, [], length, map, unwrap_or};
 ghost use Rattle.elf_sections.specs.Rows.{bytes_named, AllShort};
-ghost use Rattle.elf_sections.specs.Shapes.{row, sections_view, sections_of, AreShort};
+ghost use Rattle.elf_sections.specs.Shapes.{row, no_sections, sections_view, sections_of, AreShort};
 
-use crate::by_name::first_named;
-use crate::headed::Section;
+use crate::named::first_named;
+use crate::section::Section;
 use dw_fields::Order;
 
-/// The sections with debugging data. An absent `.debug_info` or `.debug_abbrev` is empty; each other
-/// absent section is `None`. A section that is present and has no bytes is there, and empty.
+/// The sections with debugging data. An absent `.debug_info` or `.debug_abbrev` is empty; each
+/// other absent section is `None`. A section that is present and has no bytes is there, and empty.
 #[derive(Clone, Copy, Debug)]
 pub struct Sections<'f> {
     /// The byte order of the file, and so of the numbers in its sections.
@@ -40,6 +40,29 @@ pub struct Sections<'f> {
     pub frame: Option<&'f [u8]>,
 }
 
+impl<'f> Sections<'f> {
+    /// The sections of a file that has none of them, with numbers in this byte order.
+    pub fn none(order: Order) -> Sections<'f>
+        ensures { sections_view result ≡ no_sections order }
+    {
+        Sections {
+            order,
+            info: &[],
+            abbrev: &[],
+            text: None,
+            line_text: None,
+            text_offsets: None,
+            address: None,
+            range_lists: None,
+            location_lists: None,
+            line: None,
+            ranges: None,
+            locations: None,
+            frame: None,
+        }
+    }
+}
+
 /// The bytes of the first of these sections that has this name; an absent section counts as empty.
 fn first_named_or_empty<'f>(sections: &[Section<'f>], name: &[u8]) -> &'f [u8]
     requires { AllShort (map row sections.now) }
@@ -56,7 +79,8 @@ fn first_named_or_empty<'f>(sections: &[Section<'f>], name: &[u8]) -> &'f [u8]
 #[tactic(auto, unfolding(crate::specs::Shapes::sections_of))]
 pub(crate) fn debug_sections_among<'f>(order: Order, sections: &[Section<'f>]) -> Sections<'f>
     requires { AllShort (map row sections.now) }
-    ensures sections { sections_view result ≡ sections_of (record { order = order; sections = map row sections.now }) }
+    ensures sections { sections_view result
+        ≡ sections_of (record { order = order; sections = map row sections.now }) }
     ensures short { AreShort (sections_view result) }
 {
     Sections {

@@ -4,8 +4,8 @@ ghost use Rattle.std.specs.Prelude.{◌≡◌, false, option_map};
 ghost use Rattle.elf_sections.specs.Shapes.{row};
 ghost use Rattle.elf_sections.specs.Names.{has_bytes, is_out_of_bounds, contents_of, name_of, is_compressed};
 
-use crate::headed::Section;
-use crate::header::Header;
+use crate::headers::SectionHeader;
+use crate::section::Section;
 use string_tables::StringTable;
 
 /// Whether sections of this type have bytes in the file.
@@ -17,7 +17,7 @@ fn has_bytes(kind: u32) -> bool
 
 /// Whether the section has bytes that aren't wholly in the file.
 #[tactic(auto, unfolding(crate::specs::Names::is_out_of_bounds))]
-pub(crate) fn is_out_of_bounds(file: &[u8], header: &Header) -> bool
+pub(crate) fn is_out_of_bounds(file: &[u8], header: &SectionHeader) -> bool
     ensures { result ≡ is_out_of_bounds file.now header.now }
 {
     let length = file.len() as u64;
@@ -26,7 +26,7 @@ pub(crate) fn is_out_of_bounds(file: &[u8], header: &Header) -> bool
 
 /// The section's bytes.
 #[tactic(auto, unfolding(crate::specs::Names::is_out_of_bounds, crate::specs::Names::contents_of))]
-pub(crate) fn contents_of<'f>(file: &'f [u8], header: &Header) -> &'f [u8]
+pub(crate) fn contents_of<'f>(file: &'f [u8], header: &SectionHeader) -> &'f [u8]
     requires { is_out_of_bounds file.now header.now ≡ false }
     ensures { result.now ≡ contents_of file.entry.now header.now }
 {
@@ -40,7 +40,10 @@ pub(crate) fn contents_of<'f>(file: &'f [u8], header: &Header) -> &'f [u8]
 
 /// The name that a header gives in the table of the names; every name is empty where there is none.
 #[tactic(auto, unfolding(crate::specs::Names::name_of))]
-pub(crate) fn name_of<'f>(names: &Option<StringTable<'f>>, header: &Header) -> Option<&'f [u8]>
+pub(crate) fn name_of<'f>(
+    names: &Option<StringTable<'f>>,
+    header: &SectionHeader,
+) -> Option<&'f [u8]>
     ensures { option_map (λ b. b.now) result ≡ name_of names.now header.now }
 {
     match names {

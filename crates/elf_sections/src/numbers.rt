@@ -1,10 +1,9 @@
 //! Numbers at the places of a file.
 
-ghost use Rattle.std.specs.Prelude.{◌≡◌, ◌+◌, ◌≤◌, ◌<◌, length};
+ghost use Rattle.std.specs.Prelude.{◌≡◌, ◌+◌, ◌≤◌, length};
 ghost use Rattle.elf_sections.specs.Layouts.{field, word, word_size};
 
-use crate::layout::Layout;
-use byteorder::{BigEndian, ByteOrder, LittleEndian};
+use crate::class_layout::ClassLayout;
 use dw_fields::Order;
 
 /// The number in the two bytes at a place.
@@ -13,11 +12,7 @@ pub(crate) fn u16_at(file: &[u8], order: Order, place: u64) -> u16
     requires { place + 2 ≤ length file.now }
     ensures { result ≡ field order 2 place file.now }
 {
-    let bytes = &file[place as usize..];
-    match order {
-        Order::Little => LittleEndian::read_u16(bytes),
-        Order::Big => BigEndian::read_u16(bytes),
-    }
+    order.u16(&file[place as usize..])
 }
 
 /// The number in the four bytes at a place.
@@ -26,11 +21,7 @@ pub(crate) fn u32_at(file: &[u8], order: Order, place: u64) -> u32
     requires { place + 4 ≤ length file.now }
     ensures { result ≡ field order 4 place file.now }
 {
-    let bytes = &file[place as usize..];
-    match order {
-        Order::Little => LittleEndian::read_u32(bytes),
-        Order::Big => BigEndian::read_u32(bytes),
-    }
+    order.u32(&file[place as usize..])
 }
 
 /// The number in the eight bytes at a place.
@@ -39,16 +30,12 @@ fn u64_at(file: &[u8], order: Order, place: u64) -> u64
     requires { place + 8 ≤ length file.now }
     ensures { result ≡ field order 8 place file.now }
 {
-    let bytes = &file[place as usize..];
-    match order {
-        Order::Little => LittleEndian::read_u64(bytes),
-        Order::Big => BigEndian::read_u64(bytes),
-    }
+    order.u64(&file[place as usize..])
 }
 
 /// How many bytes an address, an offset or a size has in the file.
 #[tactic(auto, unfolding(crate::specs::Layouts::word_size))]
-pub(crate) fn word_size(layout: Layout) -> u64
+pub(crate) fn word_size(layout: ClassLayout) -> u64
     ensures size { result ≡ word_size layout }
     ensures least { 4 ≤ result }
     ensures most { result ≤ 8 }
@@ -58,7 +45,7 @@ pub(crate) fn word_size(layout: Layout) -> u64
 
 /// The address, offset or size at a place.
 #[tactic(auto, unfolding(crate::specs::Layouts::word_size))]
-pub(crate) fn word_at(file: &[u8], layout: Layout, place: u64) -> u64
+pub(crate) fn word_at(file: &[u8], layout: ClassLayout, place: u64) -> u64
     requires { place + word_size layout ≤ length file.now }
     ensures { result ≡ word layout place file.now }
 {

@@ -1,6 +1,7 @@
 //! Worked files: one without sections, and one with `.debug_info` and the names' section.
 
-use crate::{Elf, ElfRefusal, OpenRefusal};
+use crate::{Elf, ElfRefusal, OpenRefusal, Sections};
+use dw_fields::Order;
 use std::alloc::Global;
 use std::test::Fail;
 
@@ -95,4 +96,24 @@ fn refuses_in_order(rt: HostRuntime) {
     }
     assert_eq!(rt; refusal_of(rt.alloc(), &changed(195, 227)), None);
     assert_eq!(rt; refusal_of(rt.alloc(), &changed(40, 0)), None);
+}
+
+#[test]
+fn refusals_are_told_in_words(rt: HostRuntime) -> Result<(), Fail> {
+    let alloc = rt.alloc();
+    for (refusal, words) in [
+        (ElfRefusal::NotElf, "not an ELF file"),
+        (
+            ElfRefusal::SectionBounds(12),
+            "section 12 past the end of the file",
+        ),
+        (ElfRefusal::Compressed(3), "section 3 is compressed"),
+    ] {
+        let told = format!(in alloc; "{}", OpenRefusal::from(refusal))?;
+        assert_eq!(rt; told.as_str(), words);
+    }
+    let told = format!(in alloc; "{}", OpenRefusal::OutOfMemory)?;
+    assert_eq!(rt; told.as_str(), "out of memory");
+    assert!(rt; Sections::none(Order::Little).text.is_none());
+    Ok(())
 }

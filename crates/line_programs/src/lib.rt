@@ -10,6 +10,7 @@ mod formats;
 mod front;
 mod header;
 mod names;
+mod path_texts;
 mod tables;
 #[cfg(test)]
 mod tests;
@@ -17,3 +18,4 @@ mod tests;
 pub use header::LineHeader;
 pub use line_machine::Row;
 pub use names::FileName;
+pub use path_texts::PathTexts;

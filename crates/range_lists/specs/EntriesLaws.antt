@@ -7,7 +7,7 @@ use Rattle.dw_fields.specs.declared.fault_code.Code.TheVariants.{ListUnended}
 use Rattle.dw_fields.specs.Codes.{fault}
 use Rattle.dw_fields.specs.Span.{Span, at}
 use Rattle.dw_fields.specs.Reading.{Reader, ◌>>=◌}
-use Rattle.dw_fields.specs.Answers.{IsPast}
+use Rattle.dw_fields.specs.ReaderLaws.{IsPast}
 use Rattle.range_lists.specs.declared.turns.Turn.{Turn}
 use Rattle.range_lists.specs.Turns.{goes_on, list_at, list_from}
 use Rattle.range_lists.specs.Entries.{IsList}

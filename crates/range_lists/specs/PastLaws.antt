@@ -8,7 +8,7 @@ use Rattle.dw_fields.specs.declared.fault_code.Code.TheVariants.{Truncated, List
 use Rattle.dw_fields.specs.Codes.{fault}
 use Rattle.dw_fields.specs.Span.{Span, at}
 use Rattle.dw_fields.specs.Reading.{◌>>=◌, bytes_at, number_at, uleb_at, renamed}
-use Rattle.dw_fields.specs.Answers.{IsPast, bytes_at-past, number_at-past, uleb_at-past}
+use Rattle.dw_fields.specs.ReaderLaws.{IsPast, bytes_at-past, number_at-past, uleb_at-past}
 use Rattle.form_values.specs.View.{AddressIndex}
 use Rattle.form_values.specs.Resolved.{address_of}
 use Rattle.range_lists.specs.declared.kinds.Kind.{Kind}

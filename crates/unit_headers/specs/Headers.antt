@@ -63,7 +63,8 @@ header_of abbrev_length number place wide s = do
 
 abbrev pub linked_header : List ℕ → Order → ℕ → ℕ → Link → Result UnitHeader Fault
 linked_header info order abbrev_length i (Whole place body end wide) =
-    header_of abbrev_length i place wide (record { bytes = info; place = body; end = end; order = order })
+    header_of abbrev_length i place wide
+    (record { bytes = info; place = body; end = end; order = order })
 linked_header info order abbrev_length i (Broken f) = Err f
 
 -- the number of units of a section, with the last one where the chain can't be followed
@@ -74,7 +75,8 @@ unit_count info order = length (unit_chain info order)
 -- fields. A unit behind the last would begin at the section's end, and is cut off there.
 unfoldable pub header_at : List ℕ → Order → ℕ → ℕ → Result UnitHeader Fault
 header_at info order abbrev_length i =
-    linked_header info order abbrev_length i (get_or (unit_chain info order) i (Broken (fault UnitTruncated (length info))))
+    linked_header info order abbrev_length i
+    (get_or (unit_chain info order) i (Broken (fault UnitTruncated (length info))))
 
 -- what every header says: the unit lies in the section, its entries begin in the unit, and its fields
 -- are those of its kind

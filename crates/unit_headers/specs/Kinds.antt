@@ -35,7 +35,8 @@ signature_at wide s = do
   offset ← in_unit (offset_at wide (at s signature.1))
   Ok (Signature signature.0 offset.0, offset.1)
 
--- a skeleton or split compilation unit adds its identifier, a type unit its signature and the offset of its type
+-- a skeleton or split compilation unit adds its identifier, a type unit its signature and the
+-- offset of its type
 unfoldable pub extra_at : UnitKind → Bool → Reader Extra
 extra_at Compile wide s = Ok (Nothing, s.place)
 extra_at TypeUnit wide s = signature_at wide s

@@ -16,21 +16,23 @@ use Rattle.unit_headers.specs.Kinds.{in_unit}
 
 -- a section's bytes from a place on
 abbrev pub section_from : List ℕ → Order → ℕ → Span
-section_from info order place = record { bytes = info; place = place; end = length info; order = order }
+section_from info order place =
+    record { bytes = info; place = place; end = length info; order = order }
 
 -- the unit behind its length, if it ends within the section
 abbrev pub whole_link : ℕ → ℕ → Length × ℕ → Link
 whole_link size place read =
-    if nat_le (read.1 + read.0.value) size then Whole place read.1 (read.1 + read.0.value) read.0.wide
+    if nat_le (read.1 + read.0.value) size
+    then Whole place read.1 (read.1 + read.0.value) read.0.wide
     else Broken (fault UnitTruncated place)
 
 abbrev pub link_of : ℕ → ℕ → Result (Length × ℕ) Fault → Link
 link_of size place (Ok read) = whole_link size place read
 link_of size place (Err f) = Broken f
 
--- The unit with this number that begins at this place. Its number is below the limit (131,072), its length isn't
--- reserved, and it is whole in the section; else the first of these that fails breaks the chain at the
--- unit's place.
+-- The unit with this number that begins at this place. Its number is below the limit, its length
+-- isn't reserved, and it is whole in the section; else the first of these that fails breaks the
+-- chain at the unit's place.
 unfoldable pub link_at : List ℕ → Order → ℕ → ℕ → Link
 link_at info order number place =
     if number == UNIT_LIMIT then Broken (fault UnitLimit place)
@@ -46,7 +48,8 @@ unfoldable pub links_from : ℕ → List ℕ → Order → ℕ → ℕ → List 
 links_from zero info order number place = []
 links_from (suc most) info order number place =
     if nat_le (length info) place then []
-    else followed (link_at info order number place) (λ end. links_from most info order (number + 1) end)
+    else followed (link_at info order number place)
+    (λ end. links_from most info order (number + 1) end)
 
 -- all links of a section: each has at least one byte
 unfoldable pub unit_chain : List ℕ → Order → List Link
@@ -68,5 +71,7 @@ LiesIn size (Broken f) = Unit {0}
 abbrev pub Tile : List ℕ → Order → ℕ → ℕ → List Link → Type 0
 Tile info order number place [] = place ≡ length info
 Tile info order number place (Whole start body end wide ∷ links) =
-    (start ≡ place) × (link_at info order number place ≡ Whole start body end wide) × Tile info order (number + 1) end links
-Tile info order number place (Broken f ∷ links) = (link_at info order number place ≡ Broken f) × (links ≡ [])
+    (start ≡ place) × (link_at info order number place ≡ Whole start body end wide)
+    × Tile info order (number + 1) end links
+Tile info order number place (Broken f ∷ links) =
+    (link_at info order number place ≡ Broken f) × (links ≡ [])

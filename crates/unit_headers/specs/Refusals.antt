@@ -17,6 +17,7 @@ Answers view (Ok x) read = read ≡ Ok (view x)
 Answers view (Err e) read = Refuses e read
 
 -- the same for a reader that moves a cut; after a refusal nothing is said of the cut
-abbrev pub AnswersAt : {X Y : Type 0} → (X → Y) → Result X UnitRefusal → Reader Y → Span → Span → Type 0
+abbrev pub AnswersAt : {X Y : Type 0} → (X → Y) → Result X UnitRefusal → Reader Y
+    → Span → Span → Type 0
 AnswersAt view (Ok x) read old new = (read old ≡ Ok (view x, new.place)) × (new ≡ at old new.place)
 AnswersAt view (Err e) read old new = Refuses e (read old)

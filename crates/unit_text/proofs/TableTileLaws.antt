@@ -3,7 +3,7 @@ use Rattle.std.proofs.Common.{◌≡◌, ℕ, zero, suc, ◌+◌, ◌-◌, ◌<�
 use Rattle.std.specs.List.{flat_map}
 use Rattle.dw_fields.specs.declared.fault_code.Fault.{Fault}
 use Rattle.dw_fields.specs.declared.fault_code.Code.TheVariants.{DeclTruncated}
-use Rattle.dw_fields.specs.Answers.{IsPast, uleb_at-past}
+use Rattle.dw_fields.specs.ReaderLaws.{IsPast, uleb_at-past}
 use Rattle.dw_fields.specs.Codes.{fault}
 use Rattle.dw_fields.specs.Reading.{uleb_at}
 use Rattle.abbrev_decl.specs.Pairs.{from}

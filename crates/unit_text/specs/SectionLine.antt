@@ -3,9 +3,9 @@ use Rattle.std.specs.Prelude.{ℕ, List, [], ◌∷◌, ◌++◌, codes}
 use Rattle.dw_text.specs.Added.{labelled}
 use Rattle.dw_text.specs.Numbers.{decimal, hex}
 use Rattle.dw_text.specs.Escapes.{escaped}
-use Rattle.elf_sections.specs.Rows.{Row}
+use Rattle.elf_sections.specs.Rows.{SectionRow}
 
-unfoldable pub section_line : ℕ → Row → List ℕ
+unfoldable pub section_line : ℕ → SectionRow → List ℕ
 section_line number section =
     labelled (codes "section ") (decimal number)
     ++ labelled (codes " \"") (escaped section.name)

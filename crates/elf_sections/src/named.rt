@@ -4,7 +4,7 @@ ghost use Rattle.std.specs.Prelude.{◌≡◌, ◌<◌, ◌^◌, length, map, op
 ghost use Rattle.elf_sections.specs.Rows.{bytes_named, AllShort};
 ghost use Rattle.elf_sections.specs.Shapes.{row};
 
-use crate::headed::Section;
+use crate::section::Section;
 
 /// The bytes of the first of these sections that has this name.
 #[tactic(auto, unfolding(crate::specs::Rows::bytes_named))]

@@ -1,18 +1,19 @@
 //! The list of a file's sections.
 
 ghost use Rattle.std.specs.Prelude.{◌≡◌, ◌+◌, ◌<◌, ◌^◌, List, ℕ, length, take, map, option_map, IfSome, IfOk};
+ghost use Rattle.elf_sections.specs.declared.class_layout.TheConstants.{FILE_LIMIT};
 ghost use Rattle.elf_sections.specs.Refusals.{Opens};
 ghost use Rattle.elf_sections.specs.Names.{elf_of};
 ghost use Rattle.elf_sections.specs.Rows.{bytes_named, AllShort};
 ghost use Rattle.elf_sections.specs.Shapes.{row, sections_view, sections_of, AreShort};
 
-use crate::by_name::first_named;
+use crate::class_layout::read_layout;
 use crate::debug::{Sections, debug_sections_among};
-use crate::headed::Section;
-use crate::layout::read_layout;
+use crate::named::first_named;
 use crate::reading::read_sections;
 use crate::refusals::OpenRefusal;
-use crate::table::read_table;
+use crate::section::Section;
+use crate::section_table::read_table;
 use dw_fields::Order;
 use std::alloc::Global;
 use std::marker::Model;
@@ -40,36 +41,28 @@ impl<'f> Elf<'f> {
     /// Reads the section table of a file.
     ///
     /// # Errors
-    /// `Refused` with the first refusal of the file: first of its length and its header, then of the
-    /// table, then of each section's bounds, of each section's name and of each section's compression.
+    /// `Refused` with the first refusal of the file: first of its length and its header, then of
+    /// the table, then of each section's bounds, each section's name and each section's compression.
     /// `OutOfMemory` where there is no memory for the list, or for the ends of the names' texts.
     #[tactic(auto, using(crate::specs::Laws::elf_of_whole), unfolding(crate::specs::Names::elf_of))]
     pub fn read(alloc: Global, file: &'f [u8]) -> Result<Elf<'f>, OpenRefusal>
         ensures table { Opens (λ e. e) result (elf_of file.entry.now) }
         ensures short { IfOk result (λ e. AllShort e.sections) }
-        ensures front { (whole : List ℕ) → file.entry.now ≡ take (2 ^ 30 + 1) whole → elf_of file.entry.now ≡ elf_of whole }
+        ensures front { (whole : List ℕ) → file.entry.now ≡ take (FILE_LIMIT + 1) whole
+            → elf_of file.entry.now ≡ elf_of whole }
     {
-        let layout = match read_layout(file) {
-            Ok(layout) => layout,
-            Err(refusal) => return Err(OpenRefusal::Refused(refusal)),
-        };
-        let table = match read_table(file, layout) {
-            Ok(table) => table,
-            Err(refusal) => return Err(OpenRefusal::Refused(refusal)),
-        };
+        let layout = read_layout(file)?;
+        let table = read_table(file, layout)?;
         if table.count == 0 {
             return Ok(Elf {
                 order: layout.order,
                 sections: Vec::new(alloc),
             });
         }
-        match read_sections(alloc, file, layout, table) {
-            Ok(sections) => Ok(Elf {
-                order: layout.order,
-                sections,
-            }),
-            Err(refusal) => Err(refusal),
-        }
+        Ok(Elf {
+            order: layout.order,
+            sections: read_sections(alloc, file, layout, table)?,
+        })
     }
 
     /// The sections in table order.

@@ -1,15 +1,15 @@
-//! The ELF header, and one section header (gABI chapter 4, "ELF Header" and "Section Header").
+//! The ELF header, and a section header (gABI chapter 4, "ELF Header" and "Section Header").
 
 ghost use Rattle.std.specs.Prelude.{◌≡◌, ◌+◌, ◌≤◌, ◌<◌, length};
 ghost use Rattle.elf_sections.specs.Layouts.{word_size};
-ghost use Rattle.elf_sections.specs.Headers.{file_header, file_header_size, header_at, header_size};
+ghost use Rattle.elf_sections.specs.Headers.{file_header, file_header_size, section_header_at, section_header_size};
 
-use crate::layout::Layout;
+use crate::class_layout::ClassLayout;
 use crate::numbers::{u16_at, u32_at, word_at, word_size};
 
 /// The fields of the ELF header that the section table hangs on.
-#[derive(Clone, Copy)]
-pub(crate) struct FileHeader {
+#[derive(Clone, Copy, Debug, PartialEq, Eq)]
+pub struct FileHeader {
     /// The file's type, `e_type`.
     pub kind: u16,
     /// Where the section headers begin, `e_shoff`; 0 where there are none.
@@ -23,8 +23,8 @@ pub(crate) struct FileHeader {
 }
 
 /// The fields of a section header that are read.
-#[derive(Clone, Copy)]
-pub(crate) struct Header {
+#[derive(Clone, Copy, Debug, PartialEq, Eq)]
+pub struct SectionHeader {
     /// Where the name begins in the names' section, `sh_name`.
     pub name: u32,
     /// The type, `sh_type`.
@@ -40,15 +40,15 @@ pub(crate) struct Header {
 }
 
 /// The bytes of an ELF header.
-pub(crate) fn file_header_size(layout: Layout) -> u64
+pub(crate) fn file_header_size(layout: ClassLayout) -> u64
     ensures { result ≡ file_header_size layout }
 {
     40 + 3 * word_size(layout)
 }
 
 /// The bytes of a section header.
-pub(crate) fn header_size(layout: Layout) -> u64
-    ensures size { result ≡ header_size layout }
+pub(crate) fn section_header_size(layout: ClassLayout) -> u64
+    ensures size { result ≡ section_header_size layout }
     ensures most { result ≤ 64 }
 {
     16 + 6 * word_size(layout)
@@ -56,7 +56,7 @@ pub(crate) fn header_size(layout: Layout) -> u64
 
 /// The ELF header.
 #[tactic(auto, unfolding(crate::specs::Headers::file_header))]
-pub(crate) fn read_file_header(file: &[u8], layout: Layout) -> FileHeader
+pub(crate) fn read_file_header(file: &[u8], layout: ClassLayout) -> FileHeader
     requires { file_header_size layout ≤ length file.now }
     ensures { result ≡ file_header layout file.now }
 {
@@ -71,13 +71,13 @@ pub(crate) fn read_file_header(file: &[u8], layout: Layout) -> FileHeader
 }
 
 /// The section header at a place.
-#[tactic(auto, unfolding(crate::specs::Headers::header_at))]
-pub(crate) fn read_header(file: &[u8], layout: Layout, place: u64) -> Header
-    requires { place + header_size layout ≤ length file.now }
-    ensures { result ≡ header_at layout file.now place }
+#[tactic(auto, unfolding(crate::specs::Headers::section_header_at))]
+pub(crate) fn read_section_header(file: &[u8], layout: ClassLayout, place: u64) -> SectionHeader
+    requires { place + section_header_size layout ≤ length file.now }
+    ensures { result ≡ section_header_at layout file.now place }
 {
     let word = word_size(layout);
-    Header {
+    SectionHeader {
         name: u32_at(file, layout.order, place),
         kind: u32_at(file, layout.order, place + 4),
         flags: word_at(file, layout, place + 8),

@@ -1,23 +1,27 @@
-//! Where the section headers of a file stand (gABI chapter 4, "ELF Header": `e_shoff`, `e_shnum` and
-//! `e_shstrndx`).
+//! Where the section headers of a file stand (gABI chapter 4, "ELF Header": `e_shoff`, `e_shnum`
+//! and `e_shstrndx`).
 
 ghost use Rattle.std.specs.Prelude.{◌≡◌, ◌+◌, ◌*◌, ◌≤◌, ◌<◌, ◌^◌, nat_lt, length, IfOk};
-ghost use Rattle.elf_sections.specs.Headers.{file_header_size, header_size, count_of, names_of, table_at, table_of, IsInside};
+ghost use Rattle.elf_sections.specs.Headers.{file_header_size, section_header_size, count_of, names_of, table_at, table_of, IsInside};
 
-use crate::header::{FileHeader, file_header_size, header_size, read_file_header, read_header};
-use crate::layout::Layout;
+use crate::class_layout::ClassLayout;
+use crate::headers::{
+    FileHeader, file_header_size, read_file_header, read_section_header, section_header_size,
+};
 use crate::refusals::ElfRefusal;
 
-/// The section headers: where the first begins, how many there are, and the number of the one whose
-/// section holds the names. A count of 0 says that there are no sections.
-#[derive(Clone, Copy)]
-pub(crate) struct Table {
+/// Where the section headers stand. A count of 0 says that there are no sections.
+#[derive(Clone, Copy, Debug, PartialEq, Eq)]
+pub struct SectionTable {
+    /// Where section header 0 begins in the file.
     pub place: u64,
+    /// How many section headers there are.
     pub count: u64,
+    /// The number of the section header of the names' section, or 0.
     pub names: u64,
 }
 
-const NO_TABLE: Table = Table {
+const NO_TABLE: SectionTable = SectionTable {
     place: 0,
     count: 0,
     names: 0,
@@ -25,15 +29,16 @@ const NO_TABLE: Table = Table {
 
 /// Whether so many section headers from a place on pass the end of a file of `length` bytes. No sum
 /// wraps.
-fn passes_end(length: u64, layout: Layout, place: u64, count: u64) -> bool
-    ensures { result ≡ nat_lt length (place + count * header_size layout) }
+fn passes_end(length: u64, layout: ClassLayout, place: u64, count: u64) -> bool
+    ensures { result ≡ nat_lt length (place + count * section_header_size layout) }
 {
-    u128::from(length) < u128::from(place) + u128::from(count) * u128::from(header_size(layout))
+    u128::from(length)
+        < u128::from(place) + u128::from(count) * u128::from(section_header_size(layout))
 }
 
 /// The number of section headers.
 #[tactic(auto, unfolding(crate::specs::Headers::count_of))]
-fn count_of(file: &[u8], layout: Layout, header: FileHeader) -> Result<u64, ElfRefusal>
+fn count_of(file: &[u8], layout: ClassLayout, header: FileHeader) -> Result<u64, ElfRefusal>
     ensures { result ≡ count_of layout header file.now }
 {
     if header.count != 0 {
@@ -42,28 +47,32 @@ fn count_of(file: &[u8], layout: Layout, header: FileHeader) -> Result<u64, ElfR
     if passes_end(file.len() as u64, layout, header.table, 1) {
         return Err(ElfRefusal::SectionTable);
     }
-    Ok(read_header(file, layout, header.table).size)
+    Ok(read_section_header(file, layout, header.table).size)
 }
 
 /// The number of the section that holds the names.
 #[tactic(auto, unfolding(crate::specs::Headers::names_of))]
-fn names_of(file: &[u8], layout: Layout, header: FileHeader) -> u64
-    requires { header.table + header_size layout ≤ length file.now }
+fn names_of(file: &[u8], layout: ClassLayout, header: FileHeader) -> u64
+    requires { header.table + section_header_size layout ≤ length file.now }
     ensures { result ≡ names_of layout header file.now }
 {
     if header.names != 0xffff {
         return u64::from(header.names);
     }
-    u64::from(read_header(file, layout, header.table).link)
+    u64::from(read_section_header(file, layout, header.table).link)
 }
 
 /// The section headers behind a table offset that isn't 0.
 #[tactic(auto, unfolding(crate::specs::Headers::table_at))]
-fn table_at(file: &[u8], layout: Layout, header: FileHeader) -> Result<Table, ElfRefusal>
+fn table_at(
+    file: &[u8],
+    layout: ClassLayout,
+    header: FileHeader,
+) -> Result<SectionTable, ElfRefusal>
     ensures table { result ≡ table_at layout header file.now }
     ensures inside { IfOk result (λ t. IsInside layout t file.now) }
 {
-    if u64::from(header.entry_size) != header_size(layout) {
+    if u64::from(header.entry_size) != section_header_size(layout) {
         return Err(ElfRefusal::SectionTable);
     }
     let count = count_of(file, layout, header)?;
@@ -77,7 +86,7 @@ fn table_at(file: &[u8], layout: Layout, header: FileHeader) -> Result<Table, El
     if names >= count {
         return Err(ElfRefusal::SectionTable);
     }
-    Ok(Table {
+    Ok(SectionTable {
         place: header.table,
         count,
         names,
@@ -86,7 +95,7 @@ fn table_at(file: &[u8], layout: Layout, header: FileHeader) -> Result<Table, El
 
 /// Where the section headers of a file stand.
 #[tactic(auto, unfolding(crate::specs::Headers::table_of))]
-pub(crate) fn read_table(file: &[u8], layout: Layout) -> Result<Table, ElfRefusal>
+pub(crate) fn read_table(file: &[u8], layout: ClassLayout) -> Result<SectionTable, ElfRefusal>
     ensures table { result ≡ table_of layout file.now }
     ensures inside { IfOk result (λ t. IsInside layout t file.now) }
 {

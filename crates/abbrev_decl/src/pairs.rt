@@ -86,7 +86,9 @@ fn read_long_pair(section: &[u8], place: u64) -> Result<(Option<AttrSpec>, u64),
 #[inline]
 fn short_pair(section: &[u8], place: u64) -> Option<(u8, u8)>
     requires { place ≤ length section.now }
-    ensures { IfSome result (λ pair. (pair_at (from section.now place) ≡ Ok (pair_of_bytes pair.0 pair.1, place + 2)) × (place + 2 ≤ length section.now)) }
+    ensures { IfSome result (λ pair.
+        (pair_at (from section.now place) ≡ Ok (pair_of_bytes pair.0 pair.1, place + 2))
+        × (place + 2 ≤ length section.now)) }
 {
     match &section[place as usize..] {
         [name, form, ..] => {

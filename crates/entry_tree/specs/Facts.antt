@@ -69,11 +69,9 @@ facts_of_values values end size sections = record {
 abbrev pub no_facts : UnitFacts
 no_facts =
     record {
-      bases =
-          record { text = None; address = None; ranges = None; locations = None };
+      bases = record { text = None; address = None; ranges = None; locations = None };
       low_pc = None;
-      line =
-          None;
+      line = None;
       root_end = None;
     }
 

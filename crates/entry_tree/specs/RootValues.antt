@@ -61,8 +61,7 @@ no_values =
       ranges = None;
       locations = None;
       low_pc = None;
-      line =
-          None;
+      line = None;
     }
 
 -- what an entry tells

@@ -21,8 +21,7 @@ area_of sections header =
       bytes = sections.info;
       place = header.entries;
       end = header.end;
-      order =
-          sections.order;
+      order = sections.order;
     }
 
 -- Unit entries: all entries of the unit's area, or the first refusal in the order of reading.

@@ -28,8 +28,7 @@ entry_view e =
       depth = e.depth;
       code = e.code;
       tag = e.tag;
-      attrs =
-          map attr_view e.attrs.now;
+      attrs = map attr_view e.attrs.now;
     }
 
 -- what one code gave: the entry, if it isn't 0

@@ -58,7 +58,8 @@ fn read_coded<'a, 'f: 'a, D: Decls<'f>, L>(
         (key header.now.«abbrev» code)
         (IsSmallFound code (first_declaration (D.section decls.old) header.now.«abbrev» code)) }
     ensures noted { code < 2 ^ 32
-        → OnOk result (Notes (D.seen decls.new) (D.spent decls.new) (key header.now.«abbrev» code)) }
+        → OnOk result (Notes (D.seen decls.new) (D.spent decls.new)
+        (key header.now.«abbrev» code)) }
     ensures known { code < 2 ^ 32 → Contains (D.seen decls.old) (key header.now.«abbrev» code)
         → steps.new ≡ steps.old }
 {
@@ -90,7 +91,8 @@ fn read_entry<'a, 'f: 'a, D: Decls<'f>, L>(
     ensures entry { AnswersAt stepped_view result
         (entry_at (D.section decls.old) header.now.«abbrev» (widths_of header.now) depth)
         cut.old cut.new }
-    ensures forward { IfOk result (λ s. (cut.old.place + 1 ≤ cut.new.place) × (s.depth ≤ depth + 1)) }
+    ensures forward { IfOk result (λ s.
+        (cut.old.place + 1 ≤ cut.new.place) × (s.depth ≤ depth + 1)) }
     ensures follows { D.follows decls.old decls.new }
     ensures placed { GainsOnly (IsFoundKey (D.section decls.old) header.now.«abbrev»)
         (D.placed decls.old) (D.placed decls.new) }
@@ -149,7 +151,8 @@ fn read_area<'a, 'f: 'a, D: Decls<'f>, L>(
     requires size { IsAddressSize header.now.address_size }
     requires short { cut.old.end < 2 ^ 32 }
     ensures entries { Answers (λ s. map entry_view s.now)
-        result (entries_in (D.section decls.old) header.now.«abbrev» (widths_of header.now) cut.old) }
+        result (entries_in (D.section decls.old) header.now.«abbrev» (widths_of header.now)
+        cut.old) }
     ensures follows { D.follows decls.old decls.new }
     ensures placed { GainsOnly (IsFoundKey (D.section decls.old) header.now.«abbrev»)
         (D.placed decls.old) (D.placed decls.new) }

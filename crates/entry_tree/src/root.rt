@@ -176,7 +176,8 @@ pub fn root_facts<'f, D: Decls<'f>, L>(
     ensures facts { result ≡ facts_of (sections_view sections.entry.now) header.now }
     ensures fit { IfOk result (FactsFit (length (sections_view sections.entry.now).info)) }
     ensures follows { D.follows decls.old decls.new }
-    ensures counted { RootCounts (D.counts decls.old) header.now.«abbrev» (root_code_of (sections_view sections.entry.now) header.now)
+    ensures counted { RootCounts (D.counts decls.old) header.now.«abbrev»
+        (root_code_of (sections_view sections.entry.now) header.now)
         (ticked steps.old) steps.new }
     ensures placed { RootPlaces (D.section decls.old) header.now.«abbrev» (D.placed decls.old)
         (D.placed decls.new) (root_code_of (sections_view sections.entry.now) header.now) }

@@ -1,8 +1,6 @@
 -- A value ends at its place or behind it.
-use Rattle.std.proofs.Common.{◌≡◌, ℕ, ℤ, ◌+◌, ◌≤◌, ◌<◌, ◌==◌, ◌||◌, nat_lt, not, true, false, Bool, cond, List, Result, Ok, Err, refl, subst, arith}
+use Rattle.std.proofs.Common.{◌≡◌, ℕ, ℤ, ◌≤◌, ◌==◌, ◌||◌, nat_lt, not, true, false, Bool, cond, Result, Ok, Err, subst, arith}
 use Rattle.dw_fields.specs.declared.fault_code.Fault.{Fault}
-use Rattle.dw_fields.specs.declared.fault_code.Code.TheVariants as causes
-use Rattle.dw_fields.specs.Codes.{fault}
 use Rattle.dw_fields.specs.Span.{Span, at}
 use Rattle.dw_fields.specs.Reading.{Reader, ◌>>=◌, bytes_at, number_at, offset_at, uleb_at, sleb_at, text_at}
 use Rattle.dw_fields.specs.ReaderLaws.{IsPast, bytes_at-past, number_at-past, offset_at-past, uleb_at-past, sleb_at-past, text_at-past}

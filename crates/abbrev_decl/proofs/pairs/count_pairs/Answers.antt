@@ -5,7 +5,7 @@ use Rattle.abbrev_decl.proofs.pairs.count_pairs.Goals as goal
 pub pairs-preserved : goal.pairs-preserved
 pairs-preserved c =
     let stands = pair_stands _ c.in-Ok-Some-default.next _ (Some c.in-Ok-Some-default.field-0-0-0)
-        c.in-Ok-Some-default.ensures.answer c.in-Ok-Some-default.field-0-0-is in
+    c.in-Ok-Some-default.ensures.answer c.in-Ok-Some-default.field-0-0-is in
     let taken = takes_next c.args.section.now c.pairs.place c.in-Ok-Some-default.next c.in-Ok-Some-default.field-0-0-0 stands c.pairs.invariant.left.read in
     let one = ap length taken.0 in
     record {

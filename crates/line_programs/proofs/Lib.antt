@@ -1,2 +1,3 @@
 pub mod Lists
 mod Fronts
+mod LastLaws

@@ -34,8 +34,8 @@ pub(crate) struct SpecialOpcodes {
     pub opcode_base: u8,
 }
 
-/// A field or a text of the header that passes the header's end: `Truncated` and `TextUnended` become
-/// `LineTruncated`.
+/// A field or a text of the header that passes the header's end: `Truncated` and `TextUnended`
+/// become `LineTruncated`.
 pub(crate) fn in_header<T>(read: Result<T, Fault>) -> Result<T, Fault>
     ensures { result ≡ in_header read }
 {

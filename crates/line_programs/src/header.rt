@@ -81,8 +81,8 @@ impl<'f> LineHeader<'f> {
         LineHeader::read_with(alloc, &mut texts, header, offset)
     }
 
-    /// Reads the same header, with the finder of texts that other headers of the file were read with.
-    /// However many paths name one text, a section of texts is gone over twice at most.
+    /// Reads the same header, with the finder of texts that other headers of the file were read
+    /// with. However many paths name one text, a section of texts is gone over twice at most.
     ///
     /// # Errors
     /// Those of [`LineHeader::read`].

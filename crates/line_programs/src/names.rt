@@ -35,12 +35,12 @@ fn index_of(value: &Raw<'_>) -> u64
     }
 }
 
-/// Sets what a value says of its entry; `left` counts the paths that are left, this one included. Only
-/// the last path counts, and those before it aren't resolved.
+/// Sets what a value says of its entry; `left` counts the paths that are left, this one included.
+/// Only the last path counts, and those before it aren't resolved.
 ///
 /// # Errors
-/// `NoSection`, `TextOutside` and `TextUnended` at the value of a path that stands in another section,
-/// or want of memory.
+/// `NoSection`, `TextOutside` and `TextUnended` at the value of a path that stands in another
+/// section, or want of memory.
 #[tactic(auto, unfolding(crate::specs::Names::set_field))]
 fn set_field<'f>(
     alloc: Global,

@@ -141,8 +141,8 @@ fn text_in<'f>(
 
 /// The sections of a file, with a finder of the texts that paths name.
 ///
-/// It is handed from header to header, so that a run over all line programs of a file goes over each
-/// section of texts twice at most, and beyond that over no more than 128 bytes for each path.
+/// It is handed from header to header, so that a run over all line programs of a file goes over
+/// each section of texts twice at most, and beyond that over no more than 128 bytes for each path.
 #[derive(Drop)]
 pub struct PathTexts<'f> {
     sections: Sections<'f>,

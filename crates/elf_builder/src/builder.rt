@@ -2,7 +2,7 @@
 ghost use Rattle.std.specs.Prelude.{◌≡◌, ◌++◌, ◌∷◌, [], IfOk, OnOk, OnErr};
 ghost use Rattle.elf_builder.specs.File.{elf_file_of};
 
-use super::layout::whole_file;
+use super::file_plan::whole_file;
 use super::sections::GivenSection;
 use std::alloc::{AllocError, Global};
 use std::marker::Model;
@@ -45,10 +45,7 @@ impl ElfBuilder {
     {
         let name = Vec::from_slice(self.alloc, name.as_bytes())?;
         let bytes = Vec::from_slice(self.alloc, bytes)?;
-        match self.sections.push(GivenSection { name, bytes }) {
-            Ok(()) => Ok(()),
-            Err(_) => Err(AllocError),
-        }
+        Ok(self.sections.push(GivenSection { name, bytes })?)
     }
 
     /// The file: the header, the bytes of the sections without gaps, their names, and the section

@@ -45,7 +45,8 @@ pub fn push_attribute_after(
     word: &[u8],
     attribute: u64,
 ) -> Result<(), AllocError>
-    ensures { Adds result out.old.items out.new.items (labelled word.now (attribute_text attribute)) }
+    ensures { Adds result out.old.items out.new.items
+        (labelled word.now (attribute_text attribute)) }
 {
     push_named_after(out, word, attribute_name(attribute), attribute)
 }

@@ -90,7 +90,8 @@ impl Source for MemorySource {
         ensures gives { result ≡ (if refuses self.old name.now then Err read_stops.Failed
             else Ok (read_count self.old.bytes from (length into.old))) }
         ensures calls { self.new.calls ≡ counted self.old.calls }
-        ensures faults { self.new.faults ≡ faults_after (refuses self.old name.now) self.old.faults }
+        ensures faults { self.new.faults
+            ≡ faults_after (refuses self.old name.now) self.old.faults }
         ensures kept { self.new.failing ≡ self.old.failing }
     {
         let failed = self.refuses(name);
@@ -165,7 +166,8 @@ impl Sink for MemorySink {
         ensures taken { Takes (Some self.old.bytes) (Some self.new.bytes) bytes.now result }
         ensures cause { HasCause write_stops.Failed self.old.faults self.new.faults result }
         ensures whole { IfOk result (λ n. n ≡ length bytes.now) }
-        ensures fails { IsErrOf result write_stops.Failed ↔ IsTrue (fails_next self.old.failing self.old.calls) }
+        ensures fails { IsErrOf result write_stops.Failed
+            ↔ IsTrue (fails_next self.old.failing self.old.calls) }
         ensures calls { self.new.calls ≡ counted self.old.calls }
         ensures faults { self.new.faults
             ≡ faults_after (fails_next self.old.failing self.old.calls) self.old.faults }

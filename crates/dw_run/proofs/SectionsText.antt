@@ -42,3 +42,8 @@ pub sections_end : (sections : List Section) (i : ℕ) (old : Option (List ℕ))
     → Prints {E = WriteStop} (Ok None) (whole (lines_from sections i)) old old
 unfolding sections_text
 sections_end sections i old past = rw (drop_all i sections past) (refl, Gains-nothing old)
+
+-- a line that was empty holds the section's line
+pub line_is : (cleared line sent : List ℕ) (number i : ℕ) (s : Section) → cleared ≡ [] → line ≡ cleared ++ section_line number (row s) → sent ≡ line → number ≡ i
+    → sent ≡ section_line i (row s)
+line_is cleared line sent number i s empty added is same = rw (is, added, empty, same) refl

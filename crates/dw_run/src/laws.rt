@@ -1,5 +1,5 @@
-//! What the definition of the text of units says in the format's own words. The function does nothing:
-//! its contract is the law.
+//! What the definition of the text of units says in the format's own words. The function does
+//! nothing: its contract is the law.
 
 ghost use Rattle.std.specs.Prelude.{◌≡◌, ℕ, List, Result};
 ghost use Rattle.dw_fields.specs.declared.fault_code.Fault.{Fault};

@@ -1,10 +1,10 @@
 //! The program `dwtool` as a library call: words, a source of files and two sinks in, a status out.
 //!
-//! [`run`] reads the file that the words name, and prints the texts of their command. Its contract says
-//! for every file which bytes standard output and standard error gain and which status is answered, as
-//! the definitions of `specs/Output.antt` give them, and what stands there where the source or a sink
-//! fails. A command goes over the units of a file one at a time, and prints the texts before the first
-//! unit that is refused ([`texts_before_the_first_refusal`]).
+//! [`run`] reads the file that the words name, and prints the texts of their command. Its contract
+//! says for every file which bytes standard output and standard error gain and which status is
+//! answered, as the definitions of `specs/Output.antt` give them, and what stands there where the
+//! source or a sink fails. A command goes over the units of a file one at a time, and prints the
+//! texts before the first unit that is refused ([`texts_before_the_first_refusal`]).
 //!
 //! [`append_part`] is the text of one unit: its line, its entries, its line table or its lists.
 #![tactic(auto)]

@@ -31,8 +31,8 @@ pub enum Part {
     Lists,
 }
 
-/// Appends this part of the unit of a header, which is one of these sections. The unit's entries lie
-/// in the arena.
+/// Appends this part of the unit of a header, which is one of these sections. The unit's entries
+/// lie in the arena.
 ///
 /// # Errors
 /// The first fault of the part, or want of memory; `out` is then as it was.

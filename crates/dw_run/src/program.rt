@@ -32,9 +32,9 @@ pub struct RunEnd {
     pub status: u8,
 }
 
-/// Does what the words after the program's name ask for: reads the file that they name from `source`,
-/// and writes the texts of their command to `out` and the line of a refusal to `err`. The first failure
-/// of the source or of a sink ends the reading and the writing to `out`.
+/// Does what the words after the program's name ask for: reads the file that they name from
+/// `source`, and writes the texts of their command to `out` and the line of a refusal to `err`. The
+/// first failure of the source or of a sink ends the reading and the writing to `out`.
 pub fn run<S: Source, O: Sink, E: Sink>(
     alloc: Global,
     words: &[String],
@@ -45,7 +45,8 @@ pub fn run<S: Source, O: Sink, E: Sink>(
     ensures answers { result.status ≤ 5 }
 
     // the defined output, whole, with the statuses 0, 1 and 2
-    ensures output { result.status < 3 → IfSome (output_of (map string_bytes words.now) (S.holds source.old))
+    ensures output { result.status < 3
+        → IfSome (output_of (map string_bytes words.now) (S.holds source.old))
         (λ output. Meets output result.status
         (O.held out.old) (O.held out.new) (E.held err.old) (E.held err.new)) }
     ensures meaningless { result.status ≡ 2 → meaning_of (map string_bytes words.now) ≡ None }
@@ -60,12 +61,13 @@ pub fn run<S: Source, O: Sink, E: Sink>(
         (λ output. GainsPart (O.held out.old) (O.held out.new) output.out) }
 
     // and a prefix of one line on `err`
-    ensures stopped { 3 < result.status → IfSome (output_of (map string_bytes words.now) (S.holds source.old))
+    ensures stopped { 3 < result.status
+        → IfSome (output_of (map string_bytes words.now) (S.holds source.old))
         (λ output. StopsWithin output.err (S.faults source.old) (S.faults source.new)
         (E.held err.old) (E.held err.new)) }
 
-    // where the words have a meaning and nothing outside failed, the file is answered, or memory was
-    // wanted
+    // where the words have a meaning and nothing outside failed, the file is answered, or memory
+    // was wanted
     ensures complete { IsSome (meaning_of (map string_bytes words.now))
         → NothingFailed (S.faults source.old) (S.faults source.new)
         (O.faults out.old) (O.faults out.new) (E.faults err.old) (E.faults err.new)
@@ -137,7 +139,8 @@ fn print_file<O: Sink>(
     file: &[u8],
     out: &mut O,
 ) -> Result<Option<Refusal>, WriteStop>
-    ensures printed { Prints result (text_of_file command file.now) (O.held out.old) (O.held out.new) }
+    ensures printed { Prints result (text_of_file command file.now) (O.held out.old)
+        (O.held out.new) }
     ensures cause { HasCause write_stops.Failed (O.faults out.old) (O.faults out.new) result }
 {
     match Elf::read(alloc, file) {
@@ -154,7 +157,8 @@ fn print_elf<O: Sink>(
     elf: &Elf<'_>,
     out: &mut O,
 ) -> Result<Option<Refusal>, WriteStop>
-    ensures printed { Prints result (text_of_elf command elf.now) (O.held out.old) (O.held out.new) }
+    ensures printed { Prints result (text_of_elf command elf.now) (O.held out.old)
+        (O.held out.new) }
     ensures cause { HasCause write_stops.Failed (O.faults out.old) (O.faults out.new) result }
 {
     match command {

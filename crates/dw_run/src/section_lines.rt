@@ -20,7 +20,8 @@ pub(crate) fn print_sections<O: Sink>(
     sections: &[Section<'_>],
     out: &mut O,
 ) -> Result<Option<Refusal>, WriteStop>
-    ensures printed { Prints result (whole (sections_text 0 (map row sections.now))) (O.held out.old) (O.held out.new) }
+    ensures printed { Prints result (whole (sections_text 0 (map row sections.now)))
+        (O.held out.old) (O.held out.new) }
     ensures cause { HasCause write_stops.Failed (O.faults out.old) (O.faults out.new) result }
 {
     let mut line = Vec::new(alloc);

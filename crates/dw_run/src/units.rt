@@ -36,7 +36,8 @@ impl<'f> Model for UnitParts<'f> {
 
     ghost view = { λ u. record { part = u.part; sections = sections_view u.sections } };
 
-    ghost invariant = { λ u. (u.index ≡ units_of (sections_view u.sections)) × AreShort (sections_view u.sections) };
+    ghost invariant = { λ u. (u.index ≡ units_of (sections_view u.sections))
+        × AreShort (sections_view u.sections) };
 }
 
 impl<'f> UnitParts<'f> {
@@ -100,7 +101,8 @@ pub(crate) fn print_parts<O: Sink>(
     out: &mut O,
 ) -> Result<Option<Refusal>, WriteStop>
     requires { AreShort (sections_view sections.now) }
-    ensures printed { Prints result (part_of_units part (sections_view sections.now)) (O.held out.old) (O.held out.new) }
+    ensures printed { Prints result (part_of_units part (sections_view sections.now))
+        (O.held out.old) (O.held out.new) }
     ensures cause { HasCause write_stops.Failed (O.faults out.old) (O.faults out.new) result }
 {
     match UnitIndex::read(

@@ -40,7 +40,8 @@ impl ElfBuilder {
     ///
     /// Where memory runs out. The builder is then as it was.
     pub fn add(&mut self, name: &str, bytes: &[u8]) -> Result<(), AllocError>
-        ensures ok { OnOk result (self.new ≡ self.old ++ record { name = name.now; bytes = bytes.now } ∷ []) }
+        ensures ok { OnOk result (self.new ≡ self.old
+            ++ record { name = name.now; bytes = bytes.now } ∷ []) }
         ensures err { OnErr result (self.new ≡ self.old) }
     {
         let name = Vec::from_slice(self.alloc, name.as_bytes())?;

@@ -70,9 +70,11 @@ fn push_no_header(file: &mut Vec<u8>) -> Result<(), AllocError>
 
 /// Lays out the given sections in their order.
 fn plan_sections(alloc: Global, sections: &[GivenSection]) -> Result<FilePlan, AllocError>
-    ensures contents { IfOk result (λ l. l.contents.items ≡ given_contents (map given sections.now)) }
+    ensures contents { IfOk result (λ l. l.contents.items
+        ≡ given_contents (map given sections.now)) }
     ensures names { IfOk result (λ l. l.names.items ≡ given_names (map given sections.now)) }
-    ensures headers { IfOk result (λ l. l.headers.items ≡ given_headers 1 64 (map given sections.now)) }
+    ensures headers { IfOk result (λ l. l.headers.items
+        ≡ given_headers 1 64 (map given sections.now)) }
 {
     let mut plan = FilePlan {
         contents: Vec::new(alloc),

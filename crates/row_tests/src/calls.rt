@@ -3,7 +3,8 @@
 use dw_fields::{Cut, Fault, Length, Order};
 use std::alloc::{AllocError, Global};
 
-/// Makes the call of this name at the start of the bytes, and gives its answer and the place behind it.
+/// Makes the call of this name at the start of the bytes, and gives its answer and the place behind
+/// it.
 pub fn call(alloc: Global, name: &str, bytes: &[u8]) -> Result<String, AllocError> {
     let end = bytes.len() as u64;
     match name.strip_prefix("big-") {

@@ -83,7 +83,8 @@ impl Case {
         self.printed.extend_from_slice(bytes)
     }
 
-    /// Compares the next printed line with the one that is wanted, and shows both where they differ.
+    /// Compares the next printed line with the one that is wanted, and shows both where they
+    /// differ.
     pub fn want<R: Print>(&mut self, rt: &R, wanted: &str) -> io::Result<()> {
         let line = next_line(self.printed.as_slice(), self.next);
         if line != Some(wanted.as_bytes()) {

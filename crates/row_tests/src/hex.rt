@@ -2,8 +2,9 @@
 
 use std::alloc::{AllocError, Global};
 
-/// The bytes that the pairs of digits of `text` spell. A `_` between them and what stands in brackets
-/// count for nothing; an odd last digit is left out, and any other character is the digit 0.
+/// The bytes that the pairs of digits of `text` spell. A `_` between them and what stands in
+/// brackets count for nothing; an odd last digit is left out, and any other character is the digit
+/// 0.
 pub fn bytes_of(alloc: Global, text: &str) -> Result<Vec<u8>, AllocError> {
     let mut bytes = Vec::new(alloc);
     let mut explained = false;
@@ -23,8 +24,8 @@ pub fn bytes_of(alloc: Global, text: &str) -> Result<Vec<u8>, AllocError> {
     Ok(bytes)
 }
 
-/// The bytes of the parts of `PART+PART..`, one behind another: a part is `HEX`, or `N*HEX` for `N` times
-/// its bytes.
+/// The bytes of the parts of `PART+PART..`, one behind another: a part is `HEX`, or `N*HEX` for `N`
+/// times its bytes.
 pub fn joined_bytes_of(alloc: Global, text: &str) -> Result<Vec<u8>, AllocError> {
     let mut bytes = Vec::new(alloc);
     for part in text.split('+') {

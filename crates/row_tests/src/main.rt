@@ -1,15 +1,15 @@
-//! Runs the top call on small files that standard input spells, and compares what it prints with what
-//! stands beside it. Standard output has a line `ok TITLE` for each row.
+//! Runs the top call on small files that standard input spells, and compares what it prints with
+//! what stands beside it. Standard output has a line `ok TITLE` for each row.
 //!
 //! A line of a row is one of these:
 //!
 //! - `# TITLE` begins a row.
 //! - `elf NAME=BYTES ..` makes a file of these sections; BYTES are `HEX`, `N*HEX` for N times these
-//!   bytes, or several of these with a `+` between them. `raw HEX` takes the bytes as they are. In HEX a
-//!   `_` and what stands in brackets count for nothing.
+//!   bytes, or several of these with a `+` between them. `raw HEX` takes the bytes as they are. In
+//!   HEX a `_` and what stands in brackets count for nothing.
 //! - `name NAME` keeps the file under a name, and `file NAME` takes it again, also in later rows.
-//! - `cut N` keeps the first N bytes of the file; `set N HEX` overwrites from byte N on; `long N` puts
-//!   zeros behind the file in the next run, up to N bytes.
+//! - `cut N` keeps the first N bytes of the file; `set N HEX` overwrites from byte N on; `long N`
+//!   puts zeros behind the file in the next run, up to N bytes.
 //! - `fail NAME CALL` lets that call of the source, of out or of err fail in the next run.
 //! - `run WORD ..` runs the top call, where the file is named F, and prints out, err and `status N`.
 //!   `last WORD ..` does the same, and prints of out the number of its lines and the last of them.

@@ -5,6 +5,7 @@ use Rattle.dw_outside.specs.Gains.{Gains, GainsPart}
 use Rattle.dw_outside.specs.GainsLaws.{Gains-nothing, Gains-then, GainsPart-then, GainsPart-more}
 use Rattle.dw_outside.specs.declared.stops.WriteStop.{WriteStop}
 use Rattle.elf_sections.specs.declared.section.Section.{Section}
+use Rattle.elf_sections.specs.Rows.{SectionRow}
 use Rattle.elf_sections.specs.Shapes.{row}
 use Rattle.unit_text.specs.SectionLine.{section_line}
 use Rattle.dw_run.specs.declared.refusals.Refusal.{Refusal}
@@ -44,6 +45,6 @@ unfolding sections_text
 sections_end sections i old past = rw (drop_all i sections past) (refl, Gains-nothing old)
 
 -- a line that was empty holds the section's line
-pub line_is : (cleared line sent : List ℕ) (number i : ℕ) (s : Section) → cleared ≡ [] → line ≡ cleared ++ section_line number (row s) → sent ≡ line → number ≡ i
-    → sent ≡ section_line i (row s)
-line_is cleared line sent number i s empty added is same = rw (is, added, empty, same) refl
+pub line_is : (cleared line sent : List ℕ) (number i : ℕ) (r : SectionRow) → cleared ≡ [] → line ≡ cleared ++ section_line number r → sent ≡ line → number ≡ i
+    → sent ≡ section_line i r
+line_is cleared line sent number i r empty added is same = rw (is, added, empty, same) refl

@@ -1,5 +1,5 @@
 pub mod Commands
-pub mod CommandText
+pub mod CommandTexts
 pub mod FirstRefusal
 pub mod Words
 pub mod Endings

@@ -24,24 +24,24 @@ fn push_row(out: &mut Vec<u8>, line: &mut LineBuffer, row: &Row) -> Result<(), A
     ensures { Adds result out.old.items out.new.items (row_text row.now) }
 {
     line.clear();
-    put_row(line, row);
+    prepend_row(line, row);
     push_text(out, line.text())
 }
 
-/// Puts the pieces of a row's line, from the last to the first.
+/// Prepends the pieces of a row's line, from the last to the first.
 #[tactic(auto, unfolding(crate::specs::Rows::row_text, dw_text::specs::Added::labelled))]
-fn put_row(line: &mut LineBuffer, row: &Row)
+fn prepend_row(line: &mut LineBuffer, row: &Row)
     requires { line.old ≡ [] }
     ensures { line.new ≡ row_text row.now }
 {
     line.prepend_text(b"\n");
-    put_numbers(line, row);
-    put_flags(line, row);
-    put_place(line, row);
+    prepend_numbers(line, row);
+    prepend_flags(line, row);
+    prepend_place(line, row);
 }
 
 #[tactic(auto, unfolding(crate::specs::Rows::row_place))]
-fn put_place(line: &mut LineBuffer, row: &Row)
+fn prepend_place(line: &mut LineBuffer, row: &Row)
     requires { length line.old ≤ 128 }
     ensures { line.new ≡ row_place row.now ++ line.old }
 {
@@ -52,42 +52,42 @@ fn put_place(line: &mut LineBuffer, row: &Row)
 }
 
 #[tactic(auto, unfolding(crate::specs::Rows::row_flags))]
-fn put_flags(line: &mut LineBuffer, row: &Row)
+fn prepend_flags(line: &mut LineBuffer, row: &Row)
     requires { length line.old ≤ 85 }
     ensures text { line.new ≡ row_flags row.now ++ line.old }
     ensures size { length line.new ≤ length line.old + 43 }
 {
-    put_edges(line, row);
-    put_flag(line, b" block", row.block);
-    put_flag(line, b" stmt", row.stmt);
+    prepend_edges(line, row);
+    prepend_flag(line, b" block", row.block);
+    prepend_flag(line, b" stmt", row.stmt);
 }
 
 #[tactic(auto, unfolding(crate::specs::Rows::row_edges))]
-fn put_edges(line: &mut LineBuffer, row: &Row)
+fn prepend_edges(line: &mut LineBuffer, row: &Row)
     requires { length line.old ≤ 85 }
     ensures text { line.new ≡ row_edges row.now ++ line.old }
     ensures size { length line.new ≤ length line.old + 32 }
 {
-    put_flag(line, b" end", row.end);
-    put_flag(line, b" epilogue_begin", row.epilogue_begin);
-    put_flag(line, b" prologue_end", row.prologue_end);
+    prepend_flag(line, b" end", row.end);
+    prepend_flag(line, b" epilogue_begin", row.epilogue_begin);
+    prepend_flag(line, b" prologue_end", row.prologue_end);
 }
 
 #[tactic(auto, unfolding(crate::specs::Rows::row_numbers))]
-fn put_numbers(line: &mut LineBuffer, row: &Row)
+fn prepend_numbers(line: &mut LineBuffer, row: &Row)
     requires { length line.old ≤ 1 }
     ensures text { line.new ≡ row_numbers row.now ++ line.old }
     ensures size { length line.new ≤ length line.old + 84 }
 {
-    put_counted(line, b" discriminator ", row.discriminator);
-    put_counted(line, b" isa ", row.isa);
-    put_counted(line, b" op ", row.op_index);
+    prepend_counted(line, b" discriminator ", row.discriminator);
+    prepend_counted(line, b" isa ", row.isa);
+    prepend_counted(line, b" op ", row.op_index);
 }
 
-/// Puts the word where the flag holds.
+/// Prepends the word where the flag holds.
 #[inline(always)]
 #[tactic(auto, unfolding(crate::specs::Rows::flag_word))]
-fn put_flag(line: &mut LineBuffer, word: &[u8], flag: bool)
+fn prepend_flag(line: &mut LineBuffer, word: &[u8], flag: bool)
     requires { length line.old + length word.now ≤ 256 }
     ensures text { line.new ≡ flag_word word.now flag ++ line.old }
     ensures size { length line.new ≤ length line.old + length word.now }
@@ -97,10 +97,10 @@ fn put_flag(line: &mut LineBuffer, word: &[u8], flag: bool)
     }
 }
 
-/// Puts the word and the number where the number isn't 0.
+/// Prepends the word and the number where the number isn't 0.
 #[inline(always)]
 #[tactic(auto, unfolding(crate::specs::Rows::counted_text))]
-fn put_counted(line: &mut LineBuffer, word: &[u8], number: u64)
+fn prepend_counted(line: &mut LineBuffer, word: &[u8], number: u64)
     requires { length line.old + length word.now + 20 ≤ 256 }
     ensures text { line.new ≡ counted_text word.now number ++ line.old }
     ensures size { length line.new ≤ length line.old + length word.now + 20 }

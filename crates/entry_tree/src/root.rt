@@ -154,8 +154,8 @@ const NO_FACTS: UnitFacts = UnitFacts {
 };
 
 /// Reads the first entry of a unit and takes the facts of the unit from it (DWARF 5 section 3.1.1). Zero
-/// codes before it are
-/// passed over; a unit without entries has no facts. Counts one step beside those of the source.
+/// codes before it are passed over; a unit without entries has no facts. Counts one step beside those of
+/// the source.
 ///
 /// Of each attribute the first counts. A base or the line offset is taken where its value is an offset
 /// or an unsigned number, and one above 2^40, which lies past every section, is kept as 2^40. The

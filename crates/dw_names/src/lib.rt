@@ -1,7 +1,8 @@
-//! Names of tags, attributes and forms (DWARF 5 sections 7.5.3, 7.5.4 and 7.5.6), without the standard's prefixes.
+//! Names of tags, attributes and forms (DWARF 5 sections 7.5.3, 7.5.4 and 7.5.6), without the
+//! standard's prefixes.
 //!
-//! Each table is one definition, and its call gives the name beside a number exactly. The appending calls print a number
-//! without a name as `0x` and its hexadecimal digits.
+//! Each table is one definition, and its call gives the name beside a number exactly. The appending
+//! calls print a number without a name as `0x` and its hexadecimal digits.
 #![tactic(auto)]
 
 mod attributes;

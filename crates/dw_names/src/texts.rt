@@ -10,7 +10,8 @@ use crate::tags::tag_name;
 use dw_text::{push_hex_after, push_text, push_text_after};
 use std::alloc::AllocError;
 
-/// Appends a word, and behind it a name, or `0x` and the number's hexadecimal digits where there is no name.
+/// Appends a word, and behind it a name, or `0x` and the number's hexadecimal digits where there is
+/// no name.
 #[tactic(auto, unfolding(dw_text::specs::Added::labelled, crate::specs::Named::named_or_hex))]
 fn push_named_after(
     out: &mut Vec<u8>,
@@ -18,7 +19,8 @@ fn push_named_after(
     name: Option<&[u8]>,
     number: u64,
 ) -> Result<(), AllocError>
-    ensures { Adds result out.old.items out.new.items (labelled word.now (named_or_hex (option_map (λ name. name.now) name.entry) number)) }
+    ensures { Adds result out.old.items out.new.items
+        (labelled word.now (named_or_hex (option_map (λ name. name.now) name.entry) number)) }
 {
     push_text(out, word)?;
     match name {
@@ -43,7 +45,8 @@ pub fn push_attribute_after(
     word: &[u8],
     attribute: u64,
 ) -> Result<(), AllocError>
-    ensures { Adds result out.old.items out.new.items (labelled word.now (attribute_text attribute)) }
+    ensures { Adds result out.old.items out.new.items
+        (labelled word.now (attribute_text attribute)) }
 {
     push_named_after(out, word, attribute_name(attribute), attribute)
 }

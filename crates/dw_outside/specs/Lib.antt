@@ -4,3 +4,4 @@ pub mod Gains
 pub mod GainsLaws
 pub mod Reads
 pub mod Memory
+pub mod StopMessages

@@ -45,10 +45,15 @@ impl Source for NoFaultSource {
     ghost faults = { λ _. 0 };
 
     fn read(&mut self, name: &str, into: &mut [u8], from: u64) -> Result<usize, ReadStop>
-        ensures bytes { IfOk result (λ n. ReadsFrom (Some (held_under self.old.name self.old.bytes name.now)) from n into.new) }
-        ensures same { (other : List ℕ) → Some (held_under self.new.name self.new.bytes other) ≡ Some (held_under self.old.name self.old.bytes other) }
+        ensures bytes { IfOk result
+            (λ n. ReadsFrom (Some (held_under self.old.name self.old.bytes name.now)) from n
+            into.new) }
+        ensures same { (other : List ℕ) → Some (held_under self.new.name self.new.bytes other)
+            ≡ Some (held_under self.old.name self.old.bytes other) }
         ensures cause { HasCause read_stops.Failed 0 0 result }
-        ensures gives { result ≡ Ok (read_count (held_under self.old.name self.old.bytes name.now) from (length into.old)) }
+        ensures gives { result ≡ Ok
+            (read_count (held_under self.old.name self.old.bytes name.now) from
+            (length into.old)) }
     {
         let held = if self.name.as_str() == name {
             self.bytes.as_slice()

@@ -13,7 +13,8 @@ use std::marker::Model;
 use std::rt::Files;
 use std::{fs, io};
 
-/// The bytes of the longest path that is opened. The machine takes none that is longer (`PATH_MAX`).
+/// The bytes of the longest path that is opened. The machine takes none that is longer
+/// (`PATH_MAX`).
 const PATH_BYTES: usize = 4096;
 
 /// A file that is kept open, under the path that it was opened by.
@@ -69,7 +70,8 @@ impl<R: Files> Source for FileSource<R> {
     fn read(&mut self, name: &str, into: &mut [u8], from: u64) -> Result<usize, ReadStop>
         ensures bytes { IfOk result (λ n. ReadsFrom None from n into.new) }
         ensures cause { HasCause read_stops.Failed self.old self.new result }
-        ensures count { MatchResult result (λ _. self.new ≡ self.old) (λ stop. self.new ≡ after_read stop self.old) }
+        ensures count { MatchResult result (λ _. self.new ≡ self.old)
+            (λ stop. self.new ≡ after_read stop self.old) }
     {
         match read_kept(&self.rt, &mut self.opened, name, into, from) {
             Ok(count) => Ok(count),

@@ -31,13 +31,25 @@ impl Model for MemorySource {
 
     ghost Value = { SourceState };
 
-    ghost view = { λ s. record { name = string_bytes s.name; bytes = s.bytes.items; failing = s.failing.items; calls = s.calls; faults = s.faults } };
+    ghost view = { λ s. record {
+      name = string_bytes s.name;
+      bytes = s.bytes.items;
+      failing = s.failing.items;
+      calls = s.calls;
+      faults = s.faults;
+    } };
 }
 
 impl MemorySource {
     /// A source that holds `bytes` under `name` and fails at the calls of the numbers in `failing`.
     pub fn new(name: String, bytes: Vec<u8>, failing: Vec<u64>) -> Self
-        ensures { result ≡ record { name = string_bytes name; bytes = bytes.items; failing = failing.items; calls = 0; faults = 0 } }
+        ensures { result ≡ record {
+          name = string_bytes name;
+          bytes = bytes.items;
+          failing = failing.items;
+          calls = 0;
+          faults = 0;
+        } }
     {
         MemorySource {
             name,
@@ -70,12 +82,16 @@ impl Source for MemorySource {
     ghost faults = { λ s. s.faults };
 
     fn read(&mut self, name: &str, into: &mut [u8], from: u64) -> Result<usize, ReadStop>
-        ensures bytes { IfOk result (λ n. ReadsFrom (told_under self.old.name self.old.bytes name.now) from n into.new) }
-        ensures same { (other : List ℕ) → told_under self.new.name self.new.bytes other ≡ told_under self.old.name self.old.bytes other }
+        ensures bytes { IfOk result
+            (λ n. ReadsFrom (told_under self.old.name self.old.bytes name.now) from n into.new) }
+        ensures same { (other : List ℕ) → told_under self.new.name self.new.bytes other
+            ≡ told_under self.old.name self.old.bytes other }
         ensures cause { HasCause read_stops.Failed self.old.faults self.new.faults result }
-        ensures gives { result ≡ (if refuses self.old name.now then Err read_stops.Failed else Ok (read_count self.old.bytes from (length into.old))) }
+        ensures gives { result ≡ (if refuses self.old name.now then Err read_stops.Failed
+            else Ok (read_count self.old.bytes from (length into.old))) }
         ensures calls { self.new.calls ≡ counted self.old.calls }
-        ensures faults { self.new.faults ≡ faults_after (refuses self.old name.now) self.old.faults }
+        ensures faults { self.new.faults
+            ≡ faults_after (refuses self.old name.now) self.old.faults }
         ensures kept { self.new.failing ≡ self.old.failing }
     {
         let failed = self.refuses(name);
@@ -105,7 +121,12 @@ impl Model for MemorySink {
 
     ghost Value = { SinkState };
 
-    ghost view = { λ s. record { bytes = s.bytes.items; failing = s.failing.items; calls = s.calls; faults = s.faults } };
+    ghost view = { λ s. record {
+      bytes = s.bytes.items;
+      failing = s.failing.items;
+      calls = s.calls;
+      faults = s.faults;
+    } };
 }
 
 impl MemorySink {
@@ -145,9 +166,11 @@ impl Sink for MemorySink {
         ensures taken { Takes (Some self.old.bytes) (Some self.new.bytes) bytes.now result }
         ensures cause { HasCause write_stops.Failed self.old.faults self.new.faults result }
         ensures whole { IfOk result (λ n. n ≡ length bytes.now) }
-        ensures fails { IsErrOf result write_stops.Failed ↔ IsTrue (fails_next self.old.failing self.old.calls) }
+        ensures fails { IsErrOf result write_stops.Failed
+            ↔ IsTrue (fails_next self.old.failing self.old.calls) }
         ensures calls { self.new.calls ≡ counted self.old.calls }
-        ensures faults { self.new.faults ≡ faults_after (fails_next self.old.failing self.old.calls) self.old.faults }
+        ensures faults { self.new.faults
+            ≡ faults_after (fails_next self.old.failing self.old.calls) self.old.faults }
         ensures kept { self.new.failing ≡ self.old.failing }
     {
         let failed = is_failing(self.failing.as_slice(), self.calls);

@@ -1,5 +1,5 @@
-//! Real files and real streams: what is written is what is read back, byte by byte, and each failure
-//! is told and counted.
+//! Real files and real streams: what is written is what is read back, byte by byte, and each
+//! failure is told and counted.
 
 use crate::{FileSource, ReadStop, Sink, Source, StreamSink, WriteStop, read_file, write_all};
 use std::alloc::{AllocError, Global};

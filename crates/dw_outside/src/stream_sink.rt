@@ -41,7 +41,8 @@ impl<W: io::Write + Drop> Sink for StreamSink<W> {
     fn write(&mut self, bytes: &[u8]) -> Result<usize, WriteStop>
         ensures taken { Takes None None bytes.now result }
         ensures cause { HasCause write_stops.Failed self.old self.new result }
-        ensures count { MatchResult result (λ _. self.new ≡ self.old) (λ stop. self.new ≡ after_write stop self.old) }
+        ensures count { MatchResult result (λ _. self.new ≡ self.old)
+            (λ stop. self.new ≡ after_write stop self.old) }
     {
         match self.writer.write(bytes) {
             Ok(count) => {

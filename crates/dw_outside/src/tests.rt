@@ -69,3 +69,15 @@ fn sinks_without_faults_take_all(rt: HostRuntime) -> Result<(), Fail> {
     OpenGate.leave(0, 0);
     Ok(())
 }
+
+#[test]
+fn stops_are_told_in_words(rt: HostRuntime) -> Result<(), Fail> {
+    let read = format!(in rt.alloc(); "{}, {}", ReadStop::Failed, ReadStop::OutOfMemory)?;
+    assert_eq!(rt; read.as_str(), "the file could not be read, out of memory");
+    let written = format!(in rt.alloc(); "{}, {}", WriteStop::Failed, WriteStop::OutOfMemory)?;
+    assert_eq!(rt;
+        written.as_str(),
+        "the bytes could not be written, out of memory"
+    );
+    Ok(())
+}

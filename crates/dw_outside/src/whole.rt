@@ -45,7 +45,9 @@ pub fn read_file<S: Source>(
     limit: u64,
 ) -> Result<Vec<u8>, ReadStop>
     requires { limit < 2 ^ 32 }
-    ensures whole { IfOk result (λ file. IfSome (S.holds source.old name.now) (λ bytes. file.items ≡ take (limit + 1) bytes)) }
+    ensures whole { IfOk result
+        (λ file. IfSome (S.holds source.old name.now)
+        (λ bytes. file.items ≡ take (limit + 1) bytes)) }
     ensures size { IfOk result (λ file. vec_len file ≤ limit + 1) }
     ensures same { (other : List ℕ) → S.holds source.new other ≡ S.holds source.old other }
     ensures cause { HasCause read_stops.Failed (S.faults source.old) (S.faults source.new) result }

@@ -1,4 +1,4 @@
--- What is told of units, walking from one unit to the next, is the texts before the first refusal.
+-- What is printed of units, walking from one unit to the next, is the texts before the first refusal.
 use Rattle.std.proofs.Common.{◌≡◌, ℕ, zero, suc, ◌+◌, ◌≤◌, List, [], ◌∷◌, ◌++◌, map, Option, Some, None, Ok, Err, refl, sym, ap, subst, ◌∙◌, zero-add, arith}
 use Rattle.std.specs.List.{concat, range_with_len}
 use Rattle.elf_sections.specs.Shapes.{SectionsView}
@@ -6,28 +6,28 @@ use Rattle.unit_headers.specs.Headers.{unit_count}
 use Rattle.unit_text.specs.Pieces.{Text}
 use Rattle.dw_run.specs.declared.refusals.Refusal.{Refusal}
 use Rattle.dw_run.specs.declared.refusals.Refusal.TheVariants as refusals
-use Rattle.dw_run.specs.declared.unit_parts.Part.{Part}
-use Rattle.dw_run.specs.Told.{Told, before, told_at, units_told}
+use Rattle.dw_run.specs.declared.parts.Part.{Part}
+use Rattle.dw_run.specs.CommandTexts.{CommandText, before, unit_printed, units_printed}
 use Rattle.dw_run.specs.FirstRefusal.{EndsAt, TextsBeforeRefusal}
-use Rattle.dw_run.specs.UnitParts.{unit_part, units_part_told}
+use Rattle.dw_run.specs.Parts.{unit_part, part_of_units}
 
 -- the same for the units from one on
-record TextsFrom (text : ℕ → Text) (unit all : ℕ) (told : Told) : Type 0 where
+record TextsFrom (text : ℕ → Text) (unit all : ℕ) (printed : CommandText) : Type 0 where
   pub count : ℕ
   pub texts : List (List ℕ)
   pub within : count ≤ all
   pub have : map text (range_with_len unit count) ≡ map (λ t. Ok t) texts
-  pub joined : told.text ≡ concat texts
-  pub ends : EndsAt text (unit + all) (unit + count) told.refusal
+  pub joined : printed.text ≡ concat texts
+  pub ends : EndsAt text (unit + all) (unit + count) printed.refusal
 
-abbrev told_as : List ℕ → Option Refusal → Told
-told_as text refusal = record { text = text; refusal = refusal }
+abbrev text_as : List ℕ → Option Refusal → CommandText
+text_as text refusal = record { text = text; refusal = refusal }
 
 ends_as : (text : ℕ → Text) (all next all' next' : ℕ) (refusal : Option Refusal) → all ≡ all' → next ≡ next' → EndsAt text all next refusal → EndsAt text all' next' refusal
 ends_as text all next all' next' refusal a n ends = subst (λ (x : ℕ). EndsAt text x next' refusal) a (subst (λ (x : ℕ). EndsAt text all x refusal) n ends)
 
 -- the unit at hand, and the units behind it
-from_here : (found : Text) (text : ℕ → Text) (unit all : ℕ) (others : Told) → text unit ≡ found → TextsFrom text (unit + 1) all others → TextsFrom text unit (suc all) (told_at unit found others)
+from_here : (found : Text) (text : ℕ → Text) (unit all : ℕ) (others : CommandText) → text unit ≡ found → TextsFrom text (unit + 1) all others → TextsFrom text unit (suc all) (unit_printed unit found others)
 from_here (Ok t) text unit all others is later = record {
   count = suc later.count;
   texts = t ∷ later.texts;
@@ -45,28 +45,28 @@ from_here (Err f) text unit all others is later = record {
   ends = ends_as text (unit + suc all) unit (unit + suc all) (unit + 0) (Some (refusals.Unit unit f)) refl (omega arith) (omega arith, f, is, refl);
 }
 
-from_unit : (all : ℕ) (text : ℕ → Text) (unit : ℕ) → TextsFrom text unit all (units_told text unit all)
-unfolding units_told
+from_unit : (all : ℕ) (text : ℕ → Text) (unit : ℕ) → TextsFrom text unit all (units_printed text unit all)
+unfolding units_printed
 from_unit zero text unit = record { count = 0; texts = []; within = omega arith; have = refl; joined = refl; ends = refl }
-from_unit (suc all) text unit = from_here (text unit) text unit all (units_told text (unit + 1) all) refl (from_unit all text (unit + 1))
+from_unit (suc all) text unit = from_here (text unit) text unit all (units_printed text (unit + 1) all) refl (from_unit all text (unit + 1))
 
--- what is told of units is the texts of those before the first refused one
-pub texts_before : (text : ℕ → Text) (all : ℕ) → TextsBeforeRefusal text all (units_told text 0 all)
+-- what is printed of units is the texts of those before the first refused one
+pub texts_before : (text : ℕ → Text) (all : ℕ) → TextsBeforeRefusal text all (units_printed text 0 all)
 texts_before text all =
-    let told : TextsFrom text 0 all (units_told text 0 all) = from_unit all text 0 in
+    let printed : TextsFrom text 0 all (units_printed text 0 all) = from_unit all text 0 in
     record {
-      next = told.count;
-      texts = told.texts;
-      within = told.within;
-      have = told.have;
-      joined = told.joined;
-      ends = ends_as text (0 + all) (0 + told.count) all told.count (units_told text 0 all).refusal (zero-add all) (zero-add told.count) told.ends;
+      next = printed.count;
+      texts = printed.texts;
+      within = printed.within;
+      have = printed.have;
+      joined = printed.joined;
+      ends = ends_as text (0 + all) (0 + printed.count) all printed.count (units_printed text 0 all).refusal (zero-add all) (zero-add printed.count) printed.ends;
     }
 
 only_from : (all count : ℕ) (texts : List (List ℕ)) (refusal : Option Refusal) (text : ℕ → Text) (unit : ℕ)
     → count ≤ all → map text (range_with_len unit count) ≡ map (λ t. Ok t) texts → EndsAt text (unit + all) (unit + count) refusal
-    → units_told text unit all ≡ told_as (concat texts) refusal
-unfolding units_told
+    → units_printed text unit all ≡ text_as (concat texts) refusal
+unfolding units_printed
 only_from zero zero [] None text unit within have ends = refl
 only_from zero zero [] (Some refusal) text unit within have ends = absurd (omega (arith, ends.0))
 only_from zero zero (t ∷ texts) refusal text unit within have ends = absurd cc
@@ -76,24 +76,24 @@ only_from (suc all) zero [] (Some refusal) text unit within have ends =
     let here : unit + 0 ≡ unit = omega arith in
     let is : text unit ≡ Err ends.1 = ap text (sym here) ∙ ends.2 in
     let named : refusal ≡ refusals.Unit unit ends.1 = ends.3 ∙ ap (λ (u : ℕ). refusals.Unit u ends.1) here in
-    ap (λ (x : Text). told_at unit x (units_told text (unit + 1) all)) is ∙ ap (λ (r : Refusal). told_as [] (Some r)) (sym named)
+    ap (λ (x : Text). unit_printed unit x (units_printed text (unit + 1) all)) is ∙ ap (λ (r : Refusal). text_as [] (Some r)) (sym named)
 only_from (suc all) zero (t ∷ texts) refusal text unit within have ends = absurd cc
 only_from (suc all) (suc count) [] refusal text unit within have ends = absurd cc
 only_from (suc all) (suc count) (t ∷ texts) refusal text unit within have ends =
     let is : text unit ≡ Ok t = cc in
     let others : map text (range_with_len (unit + 1) count) ≡ map (λ x. Ok x) texts = cc in
-    ap (λ (x : Text). told_at unit x (units_told text (unit + 1) all)) is
+    ap (λ (x : Text). unit_printed unit x (units_printed text (unit + 1) all)) is
     ∙ ap (before t) (only_from all count texts refusal text (unit + 1) (omega arith) others
     (ends_as text (unit + suc all) (unit + suc count) (unit + 1 + all) (unit + 1 + count) refusal (omega arith) (omega arith) ends))
 
 -- and nothing else is
-pub texts_only : (text : ℕ → Text) (all : ℕ) (told : Told) → TextsBeforeRefusal text all told → told ≡ units_told text 0 all
-texts_only text all told law =
-    ap (λ (t : List ℕ). told_as t told.refusal) law.joined
-    ∙ sym (only_from all law.next law.texts told.refusal text 0 law.within law.have
-    (ends_as text all law.next (0 + all) (0 + law.next) told.refusal (sym (zero-add all)) (sym (zero-add law.next)) law.ends))
+pub texts_only : (text : ℕ → Text) (all : ℕ) (printed : CommandText) → TextsBeforeRefusal text all printed → printed ≡ units_printed text 0 all
+texts_only text all printed law =
+    ap (λ (t : List ℕ). text_as t printed.refusal) law.joined
+    ∙ sym (only_from all law.next law.texts printed.refusal text 0 law.within law.have
+    (ends_as text all law.next (0 + all) (0 + law.next) printed.refusal (sym (zero-add all)) (sym (zero-add law.next)) law.ends))
 
--- what a command tells of units is so too
-pub part_before : (part : Part) (s : SectionsView) → TextsBeforeRefusal (unit_part part s) (unit_count s.info s.order) (units_part_told part s)
-unfolding units_part_told
+-- what a command prints of units is so too
+pub part_before : (part : Part) (s : SectionsView) → TextsBeforeRefusal (unit_part part s) (unit_count s.info s.order) (part_of_units part s)
+unfolding part_of_units
 part_before part s = texts_before (unit_part part s) (unit_count s.info s.order)

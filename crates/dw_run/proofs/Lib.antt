@@ -1,4 +1,4 @@
 pub mod Ended
 pub mod FirstRefusalLaws
 pub mod SectionsText
-pub mod UnitsTold
+pub mod UnitsPrinted

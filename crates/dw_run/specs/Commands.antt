@@ -1,4 +1,4 @@
--- What each command tells of a file's sections.
+-- What each command prints of a file's sections.
 use Rattle.std.specs.Prelude.{ℕ, ◌+◌, List, [], ◌∷◌, ◌++◌, Option, Some, None}
 use Rattle.dw_fields.specs.declared.fault_code.Fault.{Fault}
 use Rattle.elf_sections.specs.Rows.{ElfView, SectionRow}
@@ -9,9 +9,9 @@ use Rattle.dw_run.specs.declared.command.Command.{Command}
 use Rattle.dw_run.specs.declared.command.Command.TheVariants as commands
 use Rattle.dw_run.specs.declared.refusals.Refusal.{Refusal}
 use Rattle.dw_run.specs.declared.refusals.Refusal.TheVariants as refusals
-use Rattle.dw_run.specs.declared.unit_parts.Part.TheVariants as parts
-use Rattle.dw_run.specs.Told.{Told, whole}
-use Rattle.dw_run.specs.UnitParts.{units_part_told}
+use Rattle.dw_run.specs.declared.parts.Part.TheVariants as parts
+use Rattle.dw_run.specs.CommandTexts.{CommandText, whole}
+use Rattle.dw_run.specs.Parts.{part_of_units}
 
 -- the lines of sections, the first of which has this number
 unfoldable pub sections_text : ℕ → List SectionRow → List ℕ
@@ -23,13 +23,13 @@ abbrev pub tables_end : Option Fault → Option Refusal
 tables_end None = None
 tables_end (Some fault) = Some (refusals.Tables fault)
 
-unfoldable pub tables_told : List ℕ → Told
-tables_told section = record { text = (tables_text section).0; refusal = tables_end (tables_text section).1 }
+unfoldable pub tables_printed : List ℕ → CommandText
+tables_printed section = record { text = (tables_text section).0; refusal = tables_end (tables_text section).1 }
 
-abbrev pub told_of_elf : Command → ElfView → Told
-told_of_elf commands.Units elf = units_part_told parts.Line (sections_of elf)
-told_of_elf commands.Sections elf = whole (sections_text 0 elf.sections)
-told_of_elf commands.Abbrev elf = tables_told (sections_of elf).«abbrev»
-told_of_elf commands.Dump elf = units_part_told parts.Entries (sections_of elf)
-told_of_elf commands.Lines elf = units_part_told parts.LineTable (sections_of elf)
-told_of_elf commands.Ranges elf = units_part_told parts.Lists (sections_of elf)
+abbrev pub text_of_elf : Command → ElfView → CommandText
+text_of_elf commands.Units elf = part_of_units parts.Line (sections_of elf)
+text_of_elf commands.Sections elf = whole (sections_text 0 elf.sections)
+text_of_elf commands.Abbrev elf = tables_printed (sections_of elf).«abbrev»
+text_of_elf commands.Dump elf = part_of_units parts.Entries (sections_of elf)
+text_of_elf commands.Lines elf = part_of_units parts.LineTable (sections_of elf)
+text_of_elf commands.Ranges elf = part_of_units parts.Lists (sections_of elf)

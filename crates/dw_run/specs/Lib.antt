@@ -1,8 +1,8 @@
 pub mod Commands
-pub mod Told
+pub mod CommandTexts
 pub mod FirstRefusal
 pub mod Words
 pub mod Endings
 pub mod Output
 pub mod RefusalLines
-pub mod UnitParts
+pub mod Parts

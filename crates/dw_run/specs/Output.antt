@@ -9,10 +9,10 @@ use Rattle.elf_sections.specs.Rows.{ElfView}
 use Rattle.dw_run.specs.declared.command.Command.{Command}
 use Rattle.dw_run.specs.declared.refusals.Refusal.{Refusal}
 use Rattle.dw_run.specs.declared.refusals.Refusal.TheVariants as refusals
-use Rattle.dw_run.specs.Commands.{told_of_elf}
-use Rattle.dw_run.specs.Endings.{line}
+use Rattle.dw_run.specs.Commands.{text_of_elf}
+use Rattle.dw_run.specs.Endings.{PartOfLine, line, unread_line}
 use Rattle.dw_run.specs.RefusalLines.{refusal_line}
-use Rattle.dw_run.specs.Told.{Told}
+use Rattle.dw_run.specs.CommandTexts.{CommandText}
 use Rattle.dw_run.specs.Words.{RequestView, meaning_of}
 
 pub record Output : Type 0 where
@@ -20,14 +20,14 @@ pub record Output : Type 0 where
   pub out : List ℕ
   pub err : List ℕ
 
--- what a command tells of the sections of a file, or the refusal of its section table
-abbrev pub told_of_table : Command → Result ElfView ElfRefusal → Told
-told_of_table command (Ok elf) = told_of_elf command elf
-told_of_table command (Err refusal) = record { text = []; refusal = Some (refusals.File refusal) }
+-- a command's text on the sections of a file, or the refusal of its section table
+abbrev pub text_of_table : Command → Result ElfView ElfRefusal → CommandText
+text_of_table command (Ok elf) = text_of_elf command elf
+text_of_table command (Err refusal) = record { text = []; refusal = Some (refusals.File refusal) }
 
--- what a command tells of a file
-unfoldable pub told_of : Command → List ℕ → Told
-told_of command file = told_of_table command (elf_of file)
+-- a command's text on a file
+unfoldable pub text_of_file : Command → List ℕ → CommandText
+text_of_file command file = text_of_table command (elf_of file)
 
 abbrev pub status_of : Option Refusal → ℕ
 status_of None = 0
@@ -37,15 +37,24 @@ abbrev pub err_of : Option Refusal → List ℕ
 err_of None = []
 err_of (Some refusal) = refusal_line refusal
 
-abbrev pub output_of_told : Told → Output
-output_of_told told = record { status = status_of told.refusal; out = told.text; err = err_of told.refusal }
+abbrev pub output_of_text : CommandText → Output
+output_of_text text = record {
+  status = status_of text.refusal;
+  out = text.text;
+  err = err_of text.refusal;
+}
 
 abbrev pub misunderstood : Output
-misunderstood = record { status = 2; out = []; err = line (codes "dwtool: words not understood") }
+misunderstood = record {
+  status = 2;
+  out = [];
+  err = line (codes "dwtool: words not understood");
+}
 
 abbrev pub output_of_request : Option RequestView → (List ℕ → Option (List ℕ)) → Option Output
 output_of_request None holds = Some misunderstood
-output_of_request (Some request) holds = option_map (λ file. output_of_told (told_of request.command file)) (holds request.file)
+output_of_request (Some request) holds =
+    option_map (λ file. output_of_text (text_of_file request.command file)) (holds request.file)
 
 -- the output; none where the source doesn't tell what the name holds
 abbrev pub output_of : List (List ℕ) → (List ℕ → Option (List ℕ)) → Option Output
@@ -57,11 +66,25 @@ pub record Meets (o : Output) (status : ℕ) (out0 out1 err0 err1 : Option (List
   pub on_out : Gains out0 out1 o.out
   pub on_err : Gains err0 err1 o.err
 
--- How a command on a file ended: with what it tells, or because a sink failed (4), or for want of memory (5).
-pub record Ends (told : Told) (status : ℕ) (out0 out1 err0 err1 : Option (List ℕ)) (out_faults0 out_faults1 err_faults0 err_faults1 : ℕ) : Type 0 where
+-- What standard error gained where a sink failed or memory was wanting: a prefix of the output's line,
+-- or of the line that memory was wanting, or, where the source failed, of the line that says so.
+abbrev pub StopsWithin : List ℕ → ℕ → ℕ → Option (List ℕ) → Option (List ℕ) → Type 0
+StopsWithin text source0 source1 err0 err1 =
+    PartOfLine text err0 err1 ⊎ (Rose source0 source1 × GainsPart err0 err1 unread_line)
+
+-- no count of faults rose
+abbrev pub NothingFailed : ℕ → ℕ → ℕ → ℕ → ℕ → ℕ → Type 0
+NothingFailed source0 source1 out0 out1 err0 err1 =
+    (Rose source0 source1 → ⊥) × (Rose out0 out1 → ⊥) × (Rose err0 err1 → ⊥)
+
+-- How a command on a file ended: with its text printed, or because a sink failed (4), or for want of
+-- memory (5).
+pub record Ends (text : CommandText) (status : ℕ) (out0 out1 err0 err1 : Option (List ℕ))
+    (out_faults0 out_faults1 err_faults0 err_faults1 : ℕ) : Type 0 where
   pub answers : (status < 2) ⊎ (status ≡ 4) ⊎ (status ≡ 5)
-  pub whole : status < 2 → Meets (output_of_told told) status out0 out1 err0 err1
-  pub part : GainsPart out0 out1 told.text
+  pub whole : status < 2 → Meets (output_of_text text) status out0 out1 err0 err1
+  pub part : GainsPart out0 out1 text.text
+  pub line : PartOfLine (err_of text.refusal) err0 err1
   pub failed : status ≡ 4 → Rose out_faults0 out_faults1 ⊎ Rose err_faults0 err_faults1
   pub later_out : out_faults0 ≤ out_faults1
   pub later_err : err_faults0 ≤ err_faults1

@@ -1,4 +1,4 @@
--- The line that tells of a refusal. Its numbers and places are those of docs/FORMATS.md.
+-- The line of a refusal. Its numbers and places are those of docs/FORMATS.md.
 use Rattle.std.specs.Prelude.{ℕ, List, [], ◌∷◌, ◌++◌, codes}
 use Rattle.dw_fields.specs.declared.fault_code.Fault.{Fault}
 use Rattle.dw_fields.specs.Codes.{code_number}

@@ -13,7 +13,7 @@ pub record RequestView : Type 0 where
 abbrev pub request_view : Request → RequestView
 request_view r = record { command = r.command; file = r.file.now }
 
--- the commands that tell of each unit more than its line
+-- the commands that print of each unit more than its line
 unfoldable pub unit_command_named : List ℕ → Option Command
 unit_command_named word =
     if bytes_eq word (codes "dump") then Some commands.Dump

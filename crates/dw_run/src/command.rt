@@ -33,7 +33,7 @@ pub fn find_command(name: &str) -> Option<Command>
     }
 }
 
-/// The same for the commands that tell of each unit more than its line.
+/// The same for the commands that print of each unit more than its line.
 #[tactic(auto, unfolding(crate::specs::Words::unit_command_named))]
 fn find_unit_command(name: &str) -> Option<Command>
     ensures { result ≡ unit_command_named name.now }

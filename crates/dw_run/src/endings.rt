@@ -23,10 +23,12 @@ pub(crate) const NOT_WRITTEN: u8 = 4;
 /// Want of memory.
 pub(crate) const NO_MEMORY: u8 = 5;
 
-/// Writes the line, and answers the status; or 4 where it can't be written, and 5 where that wants memory.
+/// Writes the line, and answers the status; or 4 where it can't be written, and 5 where that wants
+/// memory.
 pub(crate) fn end_with<E: Sink>(err: &mut E, line: &[u8], status: u8) -> u8
     requires { status ≢ 4 }
-    ensures { EndsWith line.now status result (E.held err.old) (E.held err.new) (E.faults err.old) (E.faults err.new) }
+    ensures { EndsWith line.now status result (E.held err.old) (E.held err.new)
+        (E.faults err.old) (E.faults err.new) }
 {
     match write_all(err, line) {
         Ok(()) => status,
@@ -37,7 +39,8 @@ pub(crate) fn end_with<E: Sink>(err: &mut E, line: &[u8], status: u8) -> u8
 
 /// Writes the line of a refusal, and answers 1.
 pub(crate) fn end_refused<E: Sink>(alloc: Global, err: &mut E, refusal: &Refusal) -> u8
-    ensures { EndsRefused refusal.now result (E.held err.old) (E.held err.new) (E.faults err.old) (E.faults err.new) }
+    ensures { EndsRefused refusal.now result (E.held err.old) (E.held err.new)
+        (E.faults err.old) (E.faults err.new) }
 {
     match line_of(alloc, refusal) {
         Ok(line) => end_with(err, line.as_slice(), REFUSED),

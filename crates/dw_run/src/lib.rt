@@ -1,15 +1,23 @@
-//! The top call of the program.
+//! The program `dwtool` as a library call: words, a source of files and two sinks in, a status out.
+//!
+//! [`run`] reads the file that the words name, and prints the texts of their command. Its contract
+//! says for every file which bytes standard output and standard error gain and which status is
+//! answered, as the definitions of `specs/Output.antt` give them, and what stands there where the
+//! source or a sink fails. A command goes over the units of a file one at a time, and prints the
+//! texts before the first unit that is refused ([`texts_before_the_first_refusal`]).
+//!
+//! [`append_part`] is the text of one unit: its line, its entries, its line table or its lists.
 #![tactic(auto)]
 
 mod command;
 mod endings;
 mod laws;
+mod parts;
 mod program;
 mod refusal_lines;
 mod refusals;
 mod section_lines;
 mod tables;
-mod unit_parts;
 mod unit_texts;
 mod units;
 mod words;
@@ -17,4 +25,5 @@ mod words;
 pub use command::Command;
 pub use elf_builder::ElfBuilder;
 pub use laws::texts_before_the_first_refusal;
+pub use parts::{Part, append_part};
 pub use program::{RunEnd, run};

@@ -1,4 +1,4 @@
-//! The lines that tell of a refusal.
+//! The lines of refusals.
 
 ghost use Rattle.std.specs.Prelude.{◌≡◌, IfOk};
 ghost use Rattle.dw_text.specs.Added.{Adds};

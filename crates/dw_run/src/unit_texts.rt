@@ -5,14 +5,14 @@ ghost use Rattle.dw_fields.specs.declared.fault_code.Fault.{Fault};
 ghost use Rattle.dw_outside.specs.Faults.{HasCause};
 ghost use Rattle.dw_outside.specs.declared.stops.WriteStop.TheVariants as write_stops;
 ghost use Rattle.unit_text.specs.Pieces.{Writes};
-ghost use Rattle.dw_run.specs.Told.{Tells, units_told};
+ghost use Rattle.dw_run.specs.CommandTexts.{Prints, units_printed};
 
 use crate::refusals::Refusal;
 use dw_outside::{Sink, WriteStop, write_all};
 use std::alloc::Global;
 use unit_headers::UnitRefusal;
 
-/// What a command writes for each unit of a file.
+/// What a command prints of each unit of a file.
 pub(crate) trait UnitTexts {
     ghost count: { Self → ℕ };
 
@@ -30,13 +30,15 @@ pub(crate) trait UnitTexts {
         ensures same_count { count self.new ≡ count self.old };
 }
 
-/// Writes the texts of all units in order, each by one `write_all`, up to the first unit that is refused.
-pub(crate) fn tell_units<U: UnitTexts, O: Sink>(
+/// Writes the texts of all units in order, each by one `write_all`, up to the first unit that is
+/// refused.
+pub(crate) fn print_units<U: UnitTexts, O: Sink>(
     alloc: Global,
     units: &mut U,
     out: &mut O,
 ) -> Result<Option<Refusal>, WriteStop>
-    ensures told { Tells result (units_told (U.text units.old) 0 (U.count units.old)) (O.held out.old) (O.held out.new) }
+    ensures printed { Prints result (units_printed (U.text units.old) 0 (U.count units.old))
+        (O.held out.old) (O.held out.new) }
     ensures cause { HasCause write_stops.Failed (O.faults out.old) (O.faults out.new) result }
 {
     let mut text = Vec::new(alloc);

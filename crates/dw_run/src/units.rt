@@ -1,12 +1,17 @@
 //! The units of a file, as the commands go over them.
 
 ghost use Rattle.std.specs.Prelude.{◌≡◌};
+ghost use Rattle.dw_outside.specs.Faults.{HasCause};
+ghost use Rattle.dw_outside.specs.declared.stops.WriteStop.TheVariants as write_stops;
 ghost use Rattle.elf_sections.specs.Shapes.{AreShort, sections_view};
-ghost use Rattle.dw_run.specs.UnitParts.{units_of};
+ghost use Rattle.dw_run.specs.CommandTexts.{Prints};
+ghost use Rattle.dw_run.specs.Parts.{part_of_units, units_of};
 
-use crate::unit_parts::{Part, append_part};
-use crate::unit_texts::UnitTexts;
+use crate::parts::{Part, append_part};
+use crate::refusals::Refusal;
+use crate::unit_texts::{UnitTexts, print_units};
 use bumpalo::Bump;
+use dw_outside::{Sink, WriteStop};
 use elf_sections::Sections;
 use std::alloc::Global;
 use std::marker::Model;
@@ -14,7 +19,7 @@ use unit_headers::{UnitIndex, UnitRefusal};
 
 /// A part of each unit of a file. The entries of one unit at a time lie in the arena.
 #[derive(Drop)]
-pub(crate) struct Units<'f> {
+struct UnitParts<'f> {
     alloc: Global,
     part: Part,
     sections: Sections<'f>,
@@ -22,31 +27,27 @@ pub(crate) struct Units<'f> {
     arena: Bump,
 }
 
-impl<'f> Model for Units<'f> {
+impl<'f> Model for UnitParts<'f> {
     ghost use Rattle.std.specs.Prelude.{◌≡◌};
     ghost use Rattle.elf_sections.specs.Shapes.{AreShort, sections_view};
-    ghost use Rattle.dw_run.specs.UnitParts.{UnitsView, units_of};
+    ghost use Rattle.dw_run.specs.Parts.{PartView, units_of};
 
-    ghost Value = { UnitsView };
+    ghost Value = { PartView };
 
     ghost view = { λ u. record { part = u.part; sections = sections_view u.sections } };
 
-    ghost invariant = { λ u. (u.index ≡ units_of (sections_view u.sections)) × AreShort (sections_view u.sections) };
+    ghost invariant = { λ u. (u.index ≡ units_of (sections_view u.sections))
+        × AreShort (sections_view u.sections) };
 }
 
-impl<'f> Units<'f> {
+impl<'f> UnitParts<'f> {
     /// This part of the units of an index, which is that of these sections.
-    pub(crate) fn new(
-        alloc: Global,
-        part: Part,
-        sections: Sections<'f>,
-        index: UnitIndex<'f>,
-    ) -> Units<'f>
+    fn new(alloc: Global, part: Part, sections: Sections<'f>, index: UnitIndex<'f>) -> UnitParts<'f>
         requires units { index ≡ units_of (sections_view sections) }
         requires short { AreShort (sections_view sections) }
         ensures { result ≡ record { part = part; sections = sections_view sections.entry } }
     {
-        Units {
+        UnitParts {
             alloc,
             part,
             sections,
@@ -56,10 +57,10 @@ impl<'f> Units<'f> {
     }
 }
 
-#[tactic(auto, unfolding(crate::specs::UnitParts::unit_part))]
-impl<'f> UnitTexts for Units<'f> {
+#[tactic(auto, unfolding(crate::specs::Parts::unit_part))]
+impl<'f> UnitTexts for UnitParts<'f> {
     ghost use Rattle.unit_headers.specs.Headers.{unit_count};
-    ghost use Rattle.dw_run.specs.UnitParts.{unit_part};
+    ghost use Rattle.dw_run.specs.Parts.{unit_part};
 
     ghost count = { λ u. unit_count u.sections.info u.sections.order };
 
@@ -70,10 +71,7 @@ impl<'f> UnitTexts for Units<'f> {
     }
 
     fn append(&mut self, unit: u32, out: &mut Vec<u8>) -> Result<(), UnitRefusal> {
-        let header = match self.index.header(unit) {
-            Ok(header) => header,
-            Err(fault) => return Err(UnitRefusal::Refused(fault)),
-        };
+        let header = self.index.header(unit)?;
         let done = append_part(
             self.alloc,
             self.part,
@@ -91,5 +89,32 @@ impl<'f> UnitTexts for Units<'f> {
 fn renew(alloc: Global, arena: &mut Bump) {
     if arena.reset().is_err() {
         *arena = Bump::new(alloc);
+    }
+}
+
+/// Writes this part of every unit, in the units' order.
+#[tactic(auto, unfolding(crate::specs::Parts::part_of_units))]
+pub(crate) fn print_parts<O: Sink>(
+    alloc: Global,
+    part: Part,
+    sections: &Sections<'_>,
+    out: &mut O,
+) -> Result<Option<Refusal>, WriteStop>
+    requires { AreShort (sections_view sections.now) }
+    ensures printed { Prints result (part_of_units part (sections_view sections.now))
+        (O.held out.old) (O.held out.new) }
+    ensures cause { HasCause write_stops.Failed (O.faults out.old) (O.faults out.new) result }
+{
+    match UnitIndex::read(
+        alloc,
+        sections.info,
+        sections.abbrev.len() as u64,
+        sections.order,
+    ) {
+        Ok(index) => {
+            let mut units = UnitParts::new(alloc, part, *sections, index);
+            print_units(alloc, &mut units, out)
+        }
+        Err(_) => Err(WriteStop::OutOfMemory),
     }
 }

@@ -4,9 +4,10 @@ ghost use Rattle.dw_text.specs.Numbers.{hex, sixteen};
 
 use crate::glyphs::glyph;
 
-/// Writes the hexadecimal digits of `number` so that they end at `end`, and answers where they begin.
+/// Fills in the hexadecimal digits of `number` so that they end at `end`, and answers where they
+/// begin.
 #[inline]
-pub fn write_hex(into: &mut [u8], end: usize, number: u64) -> usize
+pub fn fill_hex(into: &mut [u8], end: usize, number: u64) -> usize
     requires room { 16 ≤ end }
     requires within { end ≤ length into.old }
     ensures begins { result ≤ end }

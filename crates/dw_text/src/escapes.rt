@@ -21,7 +21,8 @@ fn run_end(text: &[u8], from: usize) -> usize
     requires { from ≤ length text.now }
     ensures begins { from ≤ result }
     ensures within { result ≤ length text.now }
-    ensures run { escaped (drop from text.now) ≡ take (result - from) (drop from text.now) ++ escaped (drop result text.now) }
+    ensures run { escaped (drop from text.now) ≡ take (result - from) (drop from text.now)
+        ++ escaped (drop result text.now) }
 {
     let mut end = from;
     while end < text.len() && is_plain(text[end]) {
@@ -44,8 +45,8 @@ fn push_escape(out: &mut Vec<u8>, byte: u8) -> Result<(), AllocError>
     }
 }
 
-/// Appends a text with its escapes: a printable ASCII character stands for itself, but `"` and `\` stand behind a `\`, and
-/// any other byte is `\x` and two hexadecimal digits.
+/// Appends a text with its escapes: a printable ASCII character stands for itself, but `"` and `\`
+/// stand behind a `\`, and any other byte is `\x` and two hexadecimal digits.
 pub fn push_escaped(out: &mut Vec<u8>, text: &[u8]) -> Result<(), AllocError>
     ensures { Adds result out.old.items out.new.items (escaped text.now) }
 {

@@ -1,8 +1,9 @@
-//! Text that is appended to a list of bytes: decimal and hexadecimal numbers, fixed sixteen digits, signed decimal,
-//! escaped text and the hexadecimal digits of bytes.
+//! Text that is appended to a list of bytes: decimal and hexadecimal numbers, fixed sixteen digits,
+//! signed decimal, escaped text and the hexadecimal digits of bytes.
 //!
-//! Each call appends exactly its text, or answers want of memory and has appended some part of it. A caller that promises
-//! more after want of memory cuts its list back itself, once. No call takes memory but by the list's own growth.
+//! Each call appends exactly its text, or answers want of memory and has appended some part of it.
+//! A caller that promises more after want of memory cuts its list back itself, once. No call takes
+//! memory but by the list's own growth.
 #![tactic(auto)]
 
 mod bytes;

@@ -4,15 +4,15 @@ ghost use Rattle.std.specs.Prelude.{◌≡◌, ◌+◌, ◌≤◌, [], ◌++◌,
 ghost use Rattle.dw_text.specs.Added.{labelled};
 ghost use Rattle.dw_text.specs.Numbers.{decimal, hex};
 
-use crate::digits::write_hex;
+use crate::digits::fill_hex;
 use itoa::write_digits;
 use std::marker::Model;
 
 /// How many bytes a line has room for.
 const ROOM: usize = 256;
 
-/// A line of at most 256 bytes. Each piece is put before those that stand, so that the digits of a number come straight
-/// to their places, and the line is appended to a text by one copy.
+/// A line of at most 256 bytes. Each piece is put before those that stand, so that the digits of a
+/// number come straight to their places, and the line is appended to a text by one copy.
 #[derive(Drop)]
 pub struct LineBuffer {
     bytes: [u8; ROOM],
@@ -58,7 +58,7 @@ impl LineBuffer {
 
     /// Puts a word before what stands.
     #[inline(always)]
-    pub fn put_text(&mut self, word: &[u8])
+    pub fn prepend_text(&mut self, word: &[u8])
         requires { length self.old + length word.now ≤ 256 }
         ensures { self.new ≡ word.now ++ self.old }
     {
@@ -70,24 +70,24 @@ impl LineBuffer {
     /// Puts a word and a decimal number before what stands.
     #[inline(always)]
     #[tactic(auto, unfolding(crate::specs::Added::labelled))]
-    pub fn put_decimal_after(&mut self, word: &[u8], number: u64)
+    pub fn prepend_decimal_after(&mut self, word: &[u8], number: u64)
         requires { length self.old + length word.now + 20 ≤ 256 }
         ensures text { self.new ≡ labelled word.now (decimal number) ++ self.old }
         ensures size { length self.new ≤ length self.old + length word.now + 20 }
     {
         self.first = write_digits(number, &mut self.bytes, self.first);
-        self.put_text(word);
+        self.prepend_text(word);
     }
 
     /// Puts a word and a hexadecimal number before what stands.
     #[inline(always)]
     #[tactic(auto, unfolding(crate::specs::Added::labelled))]
-    pub fn put_hex_after(&mut self, word: &[u8], number: u64)
+    pub fn prepend_hex_after(&mut self, word: &[u8], number: u64)
         requires { length self.old + length word.now + 16 ≤ 256 }
         ensures text { self.new ≡ labelled word.now (hex number) ++ self.old }
         ensures size { length self.new ≤ length self.old + length word.now + 16 }
     {
-        self.first = write_hex(&mut self.bytes, self.first, number);
-        self.put_text(word);
+        self.first = fill_hex(&mut self.bytes, self.first, number);
+        self.prepend_text(word);
     }
 }

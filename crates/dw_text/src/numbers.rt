@@ -1,9 +1,10 @@
-//! Numbers: decimal, hexadecimal without leading zeros, fixed sixteen hexadecimal digits, and signed decimal.
+//! Numbers: decimal, hexadecimal without leading zeros, fixed sixteen hexadecimal digits, and
+//! signed decimal.
 ghost use Rattle.std.specs.Prelude.{◌≡◌};
 ghost use Rattle.dw_text.specs.Added.{Adds, labelled};
 ghost use Rattle.dw_text.specs.Numbers.{decimal, hex, sixteen, signed};
 
-use crate::digits::{fill_sixteen, write_hex};
+use crate::digits::{fill_hex, fill_sixteen};
 use crate::words::push_text;
 use itoa::write_digits;
 use std::alloc::AllocError;
@@ -28,7 +29,7 @@ pub fn push_hex(out: &mut Vec<u8>, number: u64) -> Result<(), AllocError>
     ensures { Adds result out.old.items out.new.items (hex number) }
 {
     let mut digits = [0; MOST_HEX];
-    let first = write_hex(&mut digits, MOST_HEX, number);
+    let first = fill_hex(&mut digits, MOST_HEX, number);
     out.extend_from_slice(&digits[first..])
 }
 

@@ -61,11 +61,11 @@ fn escapes_and_bytes(rt: HostRuntime) -> Result<(), Fail> {
 #[test]
 fn a_line_from_its_end(rt: HostRuntime) -> Result<(), Fail> {
     let mut line = LineBuffer::new();
-    line.put_text(b"\n");
-    line.put_decimal_after(b" ", 18446744073709551615);
-    line.put_decimal_after(b" ", 0);
-    line.put_hex_after(b" 0x", 0x123456789abcdef0);
-    line.put_hex_after(b"0x", 0);
+    line.prepend_text(b"\n");
+    line.prepend_decimal_after(b" ", 18446744073709551615);
+    line.prepend_decimal_after(b" ", 0);
+    line.prepend_hex_after(b" 0x", 0x123456789abcdef0);
+    line.prepend_hex_after(b"0x", 0);
     assert_eq!(rt;
         line.text(),
         b"0x0 0x123456789abcdef0 0 18446744073709551615\n".as_slice()

@@ -1,10 +1,10 @@
--- One section more in the layout.
+-- One section more in the plan.
 use Rattle.std.proofs.Common.{◌≡◌, ℕ, suc, ◌+◌, ◌<◌, ◌≤◌, List, [], ◌∷◌, ◌++◌, length, get_or, drop, map, refl, sym, ◌∙◌, ap, append_assoc, add_assoc, add-one, drop-cons, length-append}
 use Rattle.std.proofs.lemmas.List.{append-nil, drop_all}
 use Rattle.elf_builder.specs.declared.sections.GivenSection.{GivenSection}
 use Rattle.elf_builder.specs.Given.{Given, given}
 use Rattle.elf_builder.specs.Headers.{section_header}
-use Rattle.elf_builder.specs.File.{contents_of, ended_names, given_names, given_headers}
+use Rattle.elf_builder.specs.File.{given_contents, ended_names, given_names, given_headers}
 
 -- the sections that are left begin with this one
 pub left_from : (sections : List GivenSection) (i : ℕ) (s : GivenSection) → i < length sections → s ≡ get_or sections i s → map given (drop i sections) ≡ given s ∷ map given (drop (i + 1) sections)
@@ -12,9 +12,9 @@ left_from sections i s within is =
     let next : drop i sections ≡ s ∷ drop (i + 1) sections = rw (add-one i) (drop-cons sections i s within ∙ ap (λ t. t ∷ drop (suc i) sections) (sym is)) in
     ap (λ t. map given t) next
 
-pub contents_step : (old new : List ℕ) (s : Given) (rest all : List Given) → all ≡ s ∷ rest → new ≡ old ++ s.bytes → new ++ contents_of rest ≡ old ++ contents_of all
-unfolding contents_of
-contents_step old new s rest all front grown = rw (front, grown) (append_assoc old s.bytes (contents_of rest))
+pub contents_step : (old new : List ℕ) (s : Given) (rest all : List Given) → all ≡ s ∷ rest → new ≡ old ++ s.bytes → new ++ given_contents rest ≡ old ++ given_contents all
+unfolding given_contents
+contents_step old new s rest all front grown = rw (front, grown) (append_assoc old s.bytes (given_contents rest))
 
 pub names_step : (old new : List ℕ) (s : Given) (rest all : List Given) → all ≡ s ∷ rest → new ≡ (old ++ s.name) ++ 0 ∷ [] → new ++ ended_names rest ≡ old ++ ended_names all
 unfolding ended_names
@@ -35,8 +35,8 @@ headers_step old new names names' contents contents' s rest all front named held
 pub none_left : (sections : List GivenSection) (i : ℕ) → length sections ≤ i → map given (drop i sections) ≡ []
 none_left sections i past = ap (λ t. map given t) (drop_all i sections past)
 
-pub contents_end : (old : List ℕ) (all : List Given) → all ≡ [] → old ++ contents_of all ≡ old
-unfolding contents_of
+pub contents_end : (old : List ℕ) (all : List Given) → all ≡ [] → old ++ given_contents all ≡ old
+unfolding given_contents
 contents_end old all none = rw none (append-nil old)
 
 pub names_end : (old : List ℕ) (all : List Given) → all ≡ [] → old ++ ended_names all ≡ old

@@ -1,12 +1,12 @@
 -- The file of the given sections: our own choice of a shape that the gABI allows.
 use Rattle.std.specs.Prelude.{ℕ, ◌+◌, List, [], ◌∷◌, ◌++◌, length, replicate, codes}
 use Rattle.elf_builder.specs.Given.{Given}
-use Rattle.elf_builder.specs.Headers.{file_header, section_header}
+use Rattle.elf_builder.specs.Headers.{file_header_bytes, section_header}
 
 -- the bytes of the sections, in order and without gaps
-unfoldable pub contents_of : List Given → List ℕ
-contents_of [] = []
-contents_of (s ∷ sections) = s.bytes ++ contents_of sections
+unfoldable pub given_contents : List Given → List ℕ
+given_contents [] = []
+given_contents (s ∷ sections) = s.bytes ++ given_contents sections
 
 -- each name with a zero byte
 unfoldable pub ended_names : List Given → List ℕ
@@ -33,20 +33,20 @@ given_headers name place (s ∷ sections) =
     section_header name 1 place (length s.bytes) ++ given_headers (name + length s.name + 1) (place + length s.bytes) sections
 
 -- the names of all sections, the last of which is that of the names themselves
-abbrev pub names_of : List Given → List ℕ
-names_of sections = given_names sections ++ own_name
+abbrev pub all_names : List Given → List ℕ
+all_names sections = given_names sections ++ own_name
 
 -- what stands between the file's header and the section headers: the bytes of the sections, and
 -- behind them the names
 abbrev pub parts_of : List Given → List ℕ
-parts_of sections = contents_of sections ++ names_of sections
+parts_of sections = given_contents sections ++ all_names sections
 
 -- the file's header, the bytes and the names, and the section headers: that of section 0, one for
 -- each given section, and one of type 3 (SHT_STRTAB) for the names
 unfoldable pub elf_file_of : List Given → List ℕ
 elf_file_of sections =
-    file_header (64 + length (parts_of sections)) (length sections)
+    file_header_bytes (64 + length (parts_of sections)) (length sections)
     ++ parts_of sections
     ++ no_header
     ++ given_headers 1 64 sections
-    ++ section_header (length (given_names sections)) 3 (64 + length (contents_of sections)) (length (names_of sections))
+    ++ section_header (length (given_names sections)) 3 (64 + length (given_contents sections)) (length (all_names sections))

@@ -16,8 +16,8 @@ back given = field 4 0 ++ field 2 64 ++ field 2 0 ++ field 2 0 ++ field 2 64 ++ 
 
 -- the file's header: its section headers stand at the place `headers`, and besides the given
 -- sections there are the empty section 0 and, last, that of the names
-unfoldable pub file_header : ℕ → ℕ → List ℕ
-file_header headers given = identification ++ front headers ++ back given
+unfoldable pub file_header_bytes : ℕ → ℕ → List ℕ
+file_header_bytes headers given = identification ++ front headers ++ back given
 
 -- sh_name, sh_type, sh_flags, sh_addr, sh_offset, sh_size, sh_link, sh_info, sh_addralign, sh_entsize
 unfoldable pub section_header : ℕ → ℕ → ℕ → ℕ → List ℕ

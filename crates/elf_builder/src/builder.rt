@@ -2,7 +2,7 @@
 ghost use Rattle.std.specs.Prelude.{◌≡◌, ◌++◌, ◌∷◌, [], IfOk, OnOk, OnErr};
 ghost use Rattle.elf_builder.specs.File.{elf_file_of};
 
-use super::layout::whole_file;
+use super::file_plan::whole_file;
 use super::sections::GivenSection;
 use std::alloc::{AllocError, Global};
 use std::marker::Model;
@@ -40,15 +40,13 @@ impl ElfBuilder {
     ///
     /// Where memory runs out. The builder is then as it was.
     pub fn add(&mut self, name: &str, bytes: &[u8]) -> Result<(), AllocError>
-        ensures ok { OnOk result (self.new ≡ self.old ++ record { name = name.now; bytes = bytes.now } ∷ []) }
+        ensures ok { OnOk result (self.new ≡ self.old
+            ++ record { name = name.now; bytes = bytes.now } ∷ []) }
         ensures err { OnErr result (self.new ≡ self.old) }
     {
         let name = Vec::from_slice(self.alloc, name.as_bytes())?;
         let bytes = Vec::from_slice(self.alloc, bytes)?;
-        match self.sections.push(GivenSection { name, bytes }) {
-            Ok(()) => Ok(()),
-            Err(_) => Err(AllocError),
-        }
+        Ok(self.sections.push(GivenSection { name, bytes })?)
     }
 
     /// The file: the header, the bytes of the sections without gaps, their names, and the section

@@ -1,6 +1,6 @@
 //! The header of the file and the headers of its sections (gABI, 'ELF Header' and 'Sections').
 ghost use Rattle.std.specs.Prelude.{◌≡◌, ◌<◌, ◌^◌, ◌++◌, OnOk};
-ghost use Rattle.elf_builder.specs.Headers.{identification, front, back, file_header, section_header};
+ghost use Rattle.elf_builder.specs.Headers.{identification, front, back, file_header_bytes, section_header};
 
 use super::fields::{push_half, push_long, push_word};
 use std::alloc::AllocError;
@@ -11,14 +11,14 @@ const IDENTIFICATION: [u8; 16] = [127, 69, 76, 70, 2, 1, 1, 0, 0, 0, 0, 0, 0, 0,
 
 /// Appends the file's header, which names the place of the section headers and how many sections
 /// were given.
-#[tactic(auto, unfolding(crate::specs::Headers::file_header))]
+#[tactic(auto, unfolding(crate::specs::Headers::file_header_bytes))]
 pub(super) fn push_file_header(
     out: &mut Vec<u8>,
     headers: u64,
     given: u64,
 ) -> Result<(), AllocError>
     requires { given < 2 ^ 63 }
-    ensures { OnOk result (out.new.items ≡ out.old.items ++ file_header headers given) }
+    ensures { OnOk result (out.new.items ≡ out.old.items ++ file_header_bytes headers given) }
 {
     push_identification(out)?;
     push_front(out, headers)?;

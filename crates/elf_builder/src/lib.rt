@@ -8,8 +8,8 @@
 
 mod builder;
 mod fields;
+mod file_plan;
 mod headers;
-mod layout;
 mod sections;
 
 pub use builder::ElfBuilder;

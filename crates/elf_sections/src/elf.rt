@@ -42,8 +42,9 @@ impl<'f> Elf<'f> {
     ///
     /// # Errors
     /// `Refused` with the first refusal of the file: first of its length and its header, then of
-    /// the table, then of each section's bounds, each section's name and each section's compression.
-    /// `OutOfMemory` where there is no memory for the list, or for the ends of the names' texts.
+    /// the table, then of each section's bounds, each section's name and each section's
+    /// compression. `OutOfMemory` where there is no memory for the list, or for the ends of the
+    /// names' texts.
     #[tactic(auto, using(crate::specs::Laws::elf_of_whole), unfolding(crate::specs::Names::elf_of))]
     pub fn read(alloc: Global, file: &'f [u8]) -> Result<Elf<'f>, OpenRefusal>
         ensures table { Opens (λ e. e) result (elf_of file.entry.now) }

@@ -38,7 +38,8 @@ fn section_header_of(
 fn first_out_of_bounds(file: &[u8], layout: ClassLayout, table: SectionTable) -> Option<u64>
     requires inside { IsInside layout table file.now }
     requires some { 0 < table.count }
-    ensures { result ≡ first_in (is_out_of_bounds file.now) 1 (section_headers_of layout table file.now) }
+    ensures { result ≡ first_in (is_out_of_bounds file.now) 1
+        (section_headers_of layout table file.now) }
 {
     for number in 1..table.count {
         let header = section_header_of(file, layout, table, number);
@@ -113,7 +114,8 @@ fn named_sections<'f>(
     requires inside { IsInside layout table file.now }
     requires some { 0 < table.count }
     requires bounds { AreInBounds layout table file.now }
-    ensures { Opens (λ v. map row v.items) result (named_rows layout table file.entry.now names.now) }
+    ensures { Opens (λ v. map row v.items) result
+        (named_rows layout table file.entry.now names.now) }
 {
     let mut sections = Vec::with_capacity(alloc, table.count as usize)?;
     add(&mut sections, NULL_SECTION)?;

@@ -5,8 +5,8 @@ use dw_fields::Order;
 use std::alloc::Global;
 use std::test::Fail;
 
-/// A file with a section `.debug_info` of 12 bytes at 0x40 and its names at 0x4c. The section headers
-/// begin at 0x63.
+/// A file with a section `.debug_info` of 12 bytes at 0x40 and its names at 0x4c. The section
+/// headers begin at 0x63.
 const FILE: [u8; 291] = [
     0x7f, 0x45, 0x4c, 0x46, 0x02, 0x01, 0x01, 0, 0, 0, 0, 0, 0, 0, 0, 0, 0x02, 0, 0x3e, 0, 0x01, 0,
     0, 0, 0, 0, 0, 0, 0, 0, 0, 0, 0, 0, 0, 0, 0, 0, 0, 0, 0x63, 0, 0, 0, 0, 0, 0, 0, 0, 0, 0, 0,

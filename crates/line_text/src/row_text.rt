@@ -34,7 +34,7 @@ fn put_row(line: &mut LineBuffer, row: &Row)
     requires { line.old ≡ [] }
     ensures { line.new ≡ row_text row.now }
 {
-    line.put_text(b"\n");
+    line.prepend_text(b"\n");
     put_numbers(line, row);
     put_flags(line, row);
     put_place(line, row);
@@ -45,10 +45,10 @@ fn put_place(line: &mut LineBuffer, row: &Row)
     requires { length line.old ≤ 128 }
     ensures { line.new ≡ row_place row.now ++ line.old }
 {
-    line.put_decimal_after(b" ", row.column);
-    line.put_decimal_after(b" ", row.line);
-    line.put_decimal_after(b" ", row.file);
-    line.put_hex_after(b"0x", row.address);
+    line.prepend_decimal_after(b" ", row.column);
+    line.prepend_decimal_after(b" ", row.line);
+    line.prepend_decimal_after(b" ", row.file);
+    line.prepend_hex_after(b"0x", row.address);
 }
 
 #[tactic(auto, unfolding(crate::specs::Rows::row_flags))]
@@ -93,7 +93,7 @@ fn put_flag(line: &mut LineBuffer, word: &[u8], flag: bool)
     ensures size { length line.new ≤ length line.old + length word.now }
 {
     if flag {
-        line.put_text(word);
+        line.prepend_text(word);
     }
 }
 
@@ -106,6 +106,6 @@ fn put_counted(line: &mut LineBuffer, word: &[u8], number: u64)
     ensures size { length line.new ≤ length line.old + length word.now + 20 }
 {
     if number != 0 {
-        line.put_decimal_after(word, number);
+        line.prepend_decimal_after(word, number);
     }
 }

@@ -1,37 +1,35 @@
 //! Single calls of a cut over a few bytes.
 
 use dw_fields::{Cut, Fault, Length, Order};
-use std::io;
+use std::alloc::{AllocError, Global};
 
-/// Makes the call of this name at the start of the bytes, and prints its answer and the place behind it.
-pub fn call<R: Print>(rt: &R, name: &str, bytes: &[u8]) -> io::Result<()> {
+/// Makes the call of this name at the start of the bytes, and gives its answer and the place behind
+/// it.
+pub fn call(alloc: Global, name: &str, bytes: &[u8]) -> Result<String, AllocError> {
+    let end = bytes.len() as u64;
     match name.strip_prefix("big-") {
-        Some(name) => answer(rt, name, Cut::new(bytes, 0, bytes.len() as u64, Order::Big)),
-        None => answer(
-            rt,
-            name,
-            Cut::new(bytes, 0, bytes.len() as u64, Order::Little),
-        ),
+        Some(name) => answer(alloc, name, Cut::new(bytes, 0, end, Order::Big)),
+        None => answer(alloc, name, Cut::new(bytes, 0, end, Order::Little)),
     }
 }
 
-fn answer<R: Print>(rt: &R, name: &str, mut cut: Cut<'_>) -> io::Result<()> {
-    match name {
-        "u8" => number(rt, widened(cut.u8()))?,
-        "u16" => number(rt, widened(cut.u16()))?,
-        "u24" => number(rt, widened(cut.u24()))?,
-        "u32" => number(rt, widened(cut.u32()))?,
-        "u64" => number(rt, cut.u64())?,
-        "u128" => long_number(rt, cut.u128())?,
-        "uleb" => number(rt, cut.uleb())?,
-        "sleb" => signed_number(rt, cut.sleb())?,
-        "address2" => number(rt, cut.address(2))?,
-        "offset" => number(rt, cut.offset(true))?,
-        "length" => length(rt, cut.length())?,
-        _ => text_size(rt, cut.text())?,
-    }
+fn answer(alloc: Global, name: &str, mut cut: Cut<'_>) -> Result<String, AllocError> {
+    let value = match name {
+        "u8" => number(alloc, widened(cut.u8()))?,
+        "u16" => number(alloc, widened(cut.u16()))?,
+        "u24" => number(alloc, widened(cut.u24()))?,
+        "u32" => number(alloc, widened(cut.u32()))?,
+        "u64" => number(alloc, cut.u64())?,
+        "u128" => long_number(alloc, cut.u128())?,
+        "uleb" => number(alloc, cut.uleb())?,
+        "sleb" => signed_number(alloc, cut.sleb())?,
+        "address2" => number(alloc, cut.address(2))?,
+        "offset" => number(alloc, cut.offset(true))?,
+        "length" => length(alloc, cut.length())?,
+        _ => text_size(alloc, cut.text())?,
+    };
     let place = cut.place();
-    println!(rt; "place {place}")
+    format!(in alloc; "{value}\nplace {place}\n")
 }
 
 fn widened<T: Into<u64>>(read: Result<T, Fault>) -> Result<u64, Fault> {
@@ -41,53 +39,53 @@ fn widened<T: Into<u64>>(read: Result<T, Fault>) -> Result<u64, Fault> {
     }
 }
 
-fn refused<R: Print>(rt: &R, fault: Fault) -> io::Result<()> {
+fn refused(alloc: Global, fault: Fault) -> Result<String, AllocError> {
     let code = fault.code.number();
     let place = fault.place;
-    println!(rt; "refusal {code} at {place}")
+    format!(in alloc; "refusal {code} at {place}")
 }
 
-fn number<R: Print>(rt: &R, read: Result<u64, Fault>) -> io::Result<()> {
+fn number(alloc: Global, read: Result<u64, Fault>) -> Result<String, AllocError> {
     match read {
-        Ok(value) => println!(rt; "{value}"),
-        Err(fault) => refused(rt, fault),
+        Ok(value) => format!(in alloc; "{value}"),
+        Err(fault) => refused(alloc, fault),
     }
 }
 
-fn signed_number<R: Print>(rt: &R, read: Result<i64, Fault>) -> io::Result<()> {
+fn signed_number(alloc: Global, read: Result<i64, Fault>) -> Result<String, AllocError> {
     match read {
-        Ok(value) => println!(rt; "{value}"),
-        Err(fault) => refused(rt, fault),
+        Ok(value) => format!(in alloc; "{value}"),
+        Err(fault) => refused(alloc, fault),
     }
 }
 
-fn long_number<R: Print>(rt: &R, read: Result<u128, Fault>) -> io::Result<()> {
+fn long_number(alloc: Global, read: Result<u128, Fault>) -> Result<String, AllocError> {
     match read {
         Ok(value) => {
             let high = u64::try_from(value >> 64).unwrap_or(0);
-            println!(rt; "high half {high}")
+            format!(in alloc; "high half {high}")
         }
-        Err(fault) => refused(rt, fault),
+        Err(fault) => refused(alloc, fault),
     }
 }
 
-fn length<R: Print>(rt: &R, read: Result<Length, Fault>) -> io::Result<()> {
+fn length(alloc: Global, read: Result<Length, Fault>) -> Result<String, AllocError> {
     match read {
         Ok(length) => {
             let value = length.value;
             let wide = length.wide;
-            println!(rt; "{value} wide {wide}")
+            format!(in alloc; "{value} wide {wide}")
         }
-        Err(fault) => refused(rt, fault),
+        Err(fault) => refused(alloc, fault),
     }
 }
 
-fn text_size<R: Print>(rt: &R, read: Result<&[u8], Fault>) -> io::Result<()> {
+fn text_size(alloc: Global, read: Result<&[u8], Fault>) -> Result<String, AllocError> {
     match read {
         Ok(text) => {
             let size = text.len();
-            println!(rt; "{size} bytes")
+            format!(in alloc; "{size} bytes")
         }
-        Err(fault) => refused(rt, fault),
+        Err(fault) => refused(alloc, fault),
     }
 }

@@ -1,22 +1,35 @@
 //! The commands of a line.
 
 use crate::calls::call;
-use crate::hex::{bytes_of, repeated_bytes_of};
+use crate::cases::Case;
+use crate::files::NamedFiles;
+use crate::hex::{bytes_of, joined_bytes_of};
 use crate::padded::PaddedSource;
-use crate::rows::Row;
+use crate::peak::peak_text;
 use dw_outside::{MemorySink, MemorySource, Source};
 use dw_run::{ElfBuilder, run};
 use std::alloc::Global;
-use std::io::{self, Write};
+use std::io;
+use std::rt::Files;
 
 /// Does what the line says.
-pub fn obey<R: Print + AllocGlobal>(rt: &R, row: &mut Row, line: &str) -> io::Result<()> {
+pub fn run_line<R: Print + Files + AllocGlobal>(
+    rt: &R,
+    row: &mut Case,
+    files: &mut NamedFiles,
+    line: &str,
+) -> io::Result<()> {
     let alloc = rt.alloc();
     let (command, rest) = line.split_once(' ').unwrap_or((line, ""));
     match command {
-        "#" => rt.println(line)?,
+        "#" => {
+            row.finish(rt)?;
+            row.begin(alloc, rest)?;
+        }
         "elf" => row.file = elf_file(alloc, rest)?,
         "raw" => row.file = bytes_of(alloc, rest)?,
+        "name" => files.keep(alloc, rest, row.file.as_slice())?,
+        "file" => row.file = Vec::from_slice(alloc, files.find(rest))?,
         "long" => row.length = rest.parse::<u64>().unwrap_or(0),
         "cut" => row.cut(rest.parse::<usize>().unwrap_or(0)),
         "set" => {
@@ -28,14 +41,20 @@ pub fn obey<R: Print + AllocGlobal>(rt: &R, row: &mut Row, line: &str) -> io::Re
             let (name, call) = rest.split_once(' ').unwrap_or(("", ""));
             row.fail(name, call.parse::<u64>().unwrap_or(0))?;
         }
-        "run" => answer(rt, row, rest, false)?,
-        "tell" => answer(rt, row, rest, true)?,
+        "run" => answer(alloc, row, rest, false)?,
+        "last" => answer(alloc, row, rest, true)?,
         "call" => {
             let (name, hex) = rest.split_once(' ').unwrap_or((rest, ""));
             let bytes = bytes_of(alloc, hex)?;
-            call(rt, name, bytes.as_slice())?;
+            row.print(call(alloc, name, bytes.as_slice())?.as_bytes())?;
         }
-        _ => {}
+        "peak" => {
+            let most = rest.parse::<u64>().unwrap_or(0);
+            row.print(peak_text(rt, most)?.as_bytes())?;
+        }
+        "want" => row.want(rt, rest)?,
+        "" => {}
+        _ => println!(rt; "unknown line: {line}")?,
     }
     Ok(())
 }
@@ -44,7 +63,7 @@ fn elf_file(alloc: Global, sections: &str) -> io::Result<Vec<u8>> {
     let mut builder = ElfBuilder::new(alloc);
     for section in sections.split_whitespace() {
         let (name, hex) = section.split_once('=').unwrap_or((section, ""));
-        let bytes = repeated_bytes_of(alloc, hex)?;
+        let bytes = joined_bytes_of(alloc, hex)?;
         builder.add(name, bytes.as_slice())?;
     }
     Ok(builder.finish()?)
@@ -58,13 +77,7 @@ fn words_of(alloc: Global, line: &str) -> io::Result<Vec<String>> {
     Ok(words)
 }
 
-fn answer<R: Print + AllocGlobal>(
-    rt: &R,
-    row: &mut Row,
-    line: &str,
-    counted: bool,
-) -> io::Result<()> {
-    let alloc = rt.alloc();
+fn answer(alloc: Global, row: &mut Case, line: &str, counted: bool) -> io::Result<()> {
     let words = words_of(alloc, line)?;
     if row.length > row.file.len() as u64 {
         let file = row.file.clone()?;
@@ -72,48 +85,44 @@ fn answer<R: Print + AllocGlobal>(
             bytes: file.as_slice(),
             length: row.length,
         };
-        return answer_from(rt, row, words.as_slice(), &mut source, counted);
+        return answer_from(alloc, row, words.as_slice(), &mut source, counted);
     }
     let name = String::from_str(alloc, "F")?;
     let mut source = MemorySource::new(name, row.file.clone()?, row.failing_source.clone()?);
-    answer_from(rt, row, words.as_slice(), &mut source, counted)
+    answer_from(alloc, row, words.as_slice(), &mut source, counted)
 }
 
-fn answer_from<R: Print + AllocGlobal, S: Source>(
-    rt: &R,
-    row: &mut Row,
+fn answer_from<S: Source>(
+    alloc: Global,
+    row: &mut Case,
     words: &[String],
     source: &mut S,
     counted: bool,
 ) -> io::Result<()> {
-    let alloc = rt.alloc();
     let mut out = MemorySink::new(alloc, row.failing_out.clone()?);
     let mut err = MemorySink::new(alloc, row.failing_err.clone()?);
     let end = run(alloc, words, source, &mut out, &mut err);
     row.forgive();
     if counted {
-        print_last(rt, out.bytes())?;
+        print_last(alloc, row, out.bytes())?;
     } else {
-        print_bytes(rt, out.bytes())?;
+        row.print(out.bytes())?;
     }
-    print_bytes(rt, err.bytes())?;
+    row.print(err.bytes())?;
     let status = end.status;
-    println!(rt; "status {status}")
+    row.print(format!(in alloc; "status {status}\n")?.as_bytes())?;
+    Ok(())
 }
 
-// How many lines there are, and the last of them.
-fn print_last<R: Print>(rt: &R, bytes: &[u8]) -> io::Result<()> {
+/// How many lines there are, and the last of them.
+fn print_last(alloc: Global, row: &mut Case, bytes: &[u8]) -> io::Result<()> {
     let mut lines = 0u64;
     let mut last = bytes;
     for line in bytes.split_inclusive(|byte| *byte == b'\n') {
         lines = lines.saturating_add(1);
         last = line;
     }
-    println!(rt; "{lines} lines, and the last is")?;
-    print_bytes(rt, last)
-}
-
-fn print_bytes<R: Print>(rt: &R, bytes: &[u8]) -> io::Result<()> {
-    let mut writer = io::writer(rt);
-    writer.write_all(bytes)
+    row.print(format!(in alloc; "{lines} lines, and the last is\n")?.as_bytes())?;
+    row.print(last)?;
+    Ok(())
 }

@@ -1,26 +1,41 @@
-//! Runs the top call on small files that standard input spells, and prints what each call answers.
+//! Runs the top call on small files that standard input spells, and compares what it prints with
+//! what stands beside it. Standard output has a line `ok TITLE` for each row.
 //!
-//! A line is a command: `# TITLE` is printed; `elf NAME=HEX ..` makes a file of these sections, where `N*HEX`
-//! stands for N times these bytes; `raw HEX` takes the bytes as they are; `cut N` keeps the first N bytes of
-//! the file; `set N HEX` overwrites from byte N on; `long N` puts zeros behind the file in the next run, up to
-//! N bytes; `fail NAME CALL` lets that call of the source, of out or of err fail in the next run; and
-//! `run WORD ..` runs the top call, where the file is named F, and prints out, err and the status; `tell WORD ..`
-//! does the same and prints of out the number of its lines and the last of them.
-//! `call NAME HEX` makes one call of a cut over these bytes.
+//! A line of a row is one of these:
+//!
+//! - `# TITLE` begins a row.
+//! - `elf NAME=BYTES ..` makes a file of these sections; BYTES are `HEX`, `N*HEX` for N times these
+//!   bytes, or several of these with a `+` between them. `raw HEX` takes the bytes as they are. In
+//!   HEX a `_` and what stands in brackets count for nothing.
+//! - `name NAME` keeps the file under a name, and `file NAME` takes it again, also in later rows.
+//! - `cut N` keeps the first N bytes of the file; `set N HEX` overwrites from byte N on; `long N`
+//!   puts zeros behind the file in the next run, up to N bytes.
+//! - `fail NAME CALL` lets that call of the source, of out or of err fail in the next run.
+//! - `run WORD ..` runs the top call, where the file is named F, and prints out, err and `status N`.
+//!   `last WORD ..` does the same, and prints of out the number of its lines and the last of them.
+//! - `call NAME HEX` makes one call of a cut over these bytes, and prints its answer.
+//! - `peak N` prints whether the program has taken at most N bytes of memory so far.
+//! - `want TEXT` is the next line that was printed.
 #![tactic(auto)]
 
 mod calls;
+mod cases;
 mod commands;
+mod files;
 mod hex;
 mod padded;
-mod rows;
+mod peak;
 
+use cases::Case;
+use commands::run_line;
+use files::NamedFiles;
 use std::io;
 
 fn main(rt: HostRuntime) -> io::Result<()> {
-    let mut row = rows::Row::new(rt.alloc());
+    let mut case = Case::new(rt.alloc());
+    let mut files = NamedFiles::new(rt.alloc());
     for line in rt.lines(rt.alloc()) {
-        commands::obey(&rt, &mut row, line?.as_str())?;
+        run_line(&rt, &mut case, &mut files, line?.as_str())?;
     }
-    Ok(())
+    case.finish(&rt)
 }

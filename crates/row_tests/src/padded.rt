@@ -6,8 +6,8 @@ ghost use Rattle.dw_outside.specs.declared.stops.ReadStop.TheVariants as read_st
 
 use dw_outside::{ReadStop, Source};
 
-/// A source that holds one file under every name: some bytes, and zeros behind them up to a length. It tells nothing
-/// of what it holds.
+/// A source that holds one file under every name: some bytes, and zeros behind them up to a length.
+/// It tells nothing of what it holds.
 #[derive(Drop)]
 pub struct PaddedSource<'b> {
     pub bytes: &'b [u8],

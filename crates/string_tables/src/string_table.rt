@@ -12,9 +12,9 @@ const BLOCK: usize = 128;
 
 /// The bytes of a string table, and where the texts end that stand at the ends of its blocks.
 ///
-/// A file may name any place, and many times places of one long text. With the ends kept, a text costs
-/// a walk over one block at most, so that the work grows no faster than the file. The table costs one
-/// walk over all of its bytes, and 8 bytes of memory for each block of 128.
+/// A file may name any place, and many times places of one long text. With the ends kept, a text
+/// costs a walk over one block at most, so that the work grows no faster than the file. The table
+/// costs one walk over all of its bytes, and 8 bytes of memory for each block of 128.
 #[derive(Drop)]
 pub struct StringTable<'f> {
     bytes: &'f [u8],
@@ -53,8 +53,8 @@ impl<'f> StringTable<'f> {
         self.bytes.len()
     }
 
-    /// The text that begins at a place, without the zero byte that ends it: none at or past the table's
-    /// end, or where no zero byte follows.
+    /// The text that begins at a place, without the zero byte that ends it: none at or past the
+    /// table's end, or where no zero byte follows.
     #[tactic(auto, unfolding(crate::specs::StringTables::text_in_table))]
     pub fn text_at(&self, place: usize) -> Option<&'f [u8]>
         ensures { option_map (λ b. b.now) result ≡ text_in_table self.now place }
@@ -102,7 +102,8 @@ fn end_from(bytes: &[u8], place: usize) -> usize
 /// place, it is the end of the text there too.
 fn next_end(bytes: &[u8], end: usize, place: usize) -> usize
     requires { place ≤ length bytes.now }
-    ensures { (start : ℕ) → start ≤ place → end ≡ end_from bytes.now start → result ≡ end_from bytes.now place }
+    ensures { (start : ℕ) → start ≤ place → end ≡ end_from bytes.now start → result
+        ≡ end_from bytes.now place }
 {
     if end < place {
         end_from(bytes, place)

@@ -2,8 +2,8 @@
 ghost use Rattle.std.specs.Prelude.{◌≡◌, ◌++◌, ◌∷◌, ◌<◌, ◌^◌, ◌+◌, [], length, map, vec_len, IfOk, OnOk};
 ghost use Rattle.elf_builder.specs.Given.{given};
 ghost use Rattle.elf_builder.specs.Fields.{field};
-ghost use Rattle.elf_builder.specs.Headers.{section_header, file_header};
-ghost use Rattle.elf_builder.specs.File.{elf_file_of, contents_of, given_names, given_headers, own_name, no_header};
+ghost use Rattle.elf_builder.specs.Headers.{section_header, file_header_bytes};
+ghost use Rattle.elf_builder.specs.File.{elf_file_of, given_contents, given_names, given_headers, own_name, no_header};
 
 use super::headers::{push_file_header, push_section_header};
 use super::sections::GivenSection;
@@ -14,7 +14,7 @@ const HEADER_SIZE: u64 = 64;
 
 /// The given sections, laid out one behind the other.
 #[derive(Drop)]
-struct Layout {
+struct FilePlan {
     /// Their bytes.
     contents: Vec<u8>,
     /// A zero byte, and each name with a zero byte.
@@ -28,11 +28,11 @@ struct Layout {
 pub(super) fn whole_file(alloc: Global, sections: &[GivenSection]) -> Result<Vec<u8>, AllocError>
     ensures { IfOk result (λ file. file.items ≡ elf_file_of (map given sections.now)) }
 {
-    let Layout {
+    let FilePlan {
         contents,
         names,
         headers,
-    } = laid_out(alloc, sections)?;
+    } = plan_sections(alloc, sections)?;
     let own_name = names.len() as u64;
     let names_place = HEADER_SIZE + contents.len() as u64;
     let mut names = names;
@@ -69,41 +69,45 @@ fn push_no_header(file: &mut Vec<u8>) -> Result<(), AllocError>
 }
 
 /// Lays out the given sections in their order.
-fn laid_out(alloc: Global, sections: &[GivenSection]) -> Result<Layout, AllocError>
-    ensures contents { IfOk result (λ l. l.contents.items ≡ contents_of (map given sections.now)) }
+fn plan_sections(alloc: Global, sections: &[GivenSection]) -> Result<FilePlan, AllocError>
+    ensures contents { IfOk result (λ l. l.contents.items
+        ≡ given_contents (map given sections.now)) }
     ensures names { IfOk result (λ l. l.names.items ≡ given_names (map given sections.now)) }
-    ensures headers { IfOk result (λ l. l.headers.items ≡ given_headers 1 64 (map given sections.now)) }
+    ensures headers { IfOk result (λ l. l.headers.items
+        ≡ given_headers 1 64 (map given sections.now)) }
 {
-    let mut layout = Layout {
+    let mut plan = FilePlan {
         contents: Vec::new(alloc),
         names: Vec::from_slice(alloc, &[0])?,
         headers: Vec::new(alloc),
     };
     for section in sections {
-        match lay_out(&mut layout, section) {
-            Ok(()) => {}
-            Err(error) => return Err(error),
-        }
+        plan_section(&mut plan, section)?;
     }
-    Ok(layout)
+    Ok(plan)
 }
 
 /// Puts one more section behind the others.
-fn lay_out(layout: &mut Layout, section: &GivenSection) -> Result<(), AllocError>
-    ensures headers { OnOk result (layout.new.headers.items ≡ layout.old.headers.items ++ section_header (length layout.old.names.items) 1 (64 + length layout.old.contents.items) (length section.now.bytes.items)) }
-    ensures contents { OnOk result (layout.new.contents.items ≡ layout.old.contents.items ++ section.now.bytes.items) }
-    ensures names { OnOk result (layout.new.names.items ≡ (layout.old.names.items ++ section.now.name.items) ++ 0 ∷ []) }
+fn plan_section(plan: &mut FilePlan, section: &GivenSection) -> Result<(), AllocError>
+    ensures headers { OnOk result
+        (plan.new.headers.items ≡ plan.old.headers.items
+        ++ section_header (length plan.old.names.items) 1
+        (64 + length plan.old.contents.items) (length section.now.bytes.items)) }
+    ensures contents { OnOk result
+        (plan.new.contents.items ≡ plan.old.contents.items ++ section.now.bytes.items) }
+    ensures names { OnOk result
+        (plan.new.names.items ≡ (plan.old.names.items ++ section.now.name.items) ++ 0 ∷ []) }
 {
-    let place = HEADER_SIZE + layout.contents.len() as u64;
+    let place = HEADER_SIZE + plan.contents.len() as u64;
     push_section_header(
-        &mut layout.headers,
-        layout.names.len() as u64,
+        &mut plan.headers,
+        plan.names.len() as u64,
         1,
         place,
         section.bytes.len() as u64,
     )?;
-    layout.contents.extend_from_slice(section.bytes.as_slice())?;
-    layout.names.extend_from_slice(section.name.as_slice())?;
-    layout.names.push(0)?;
+    plan.contents.extend_from_slice(section.bytes.as_slice())?;
+    plan.names.extend_from_slice(section.name.as_slice())?;
+    plan.names.push(0)?;
     Ok(())
 }

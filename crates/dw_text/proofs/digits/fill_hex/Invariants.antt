@@ -1,7 +1,7 @@
 use Rattle.std.proofs.Common.{◌+◌, ◌-◌, ◌++◌, ◌≡◌, ◌≤◌, drop, ◌<◌, ◌^◌, length}
 use Rattle.dw_text.specs.Numbers.{hex}
 use Rattle.dw_text.proofs.Fill.{onto}
-use Rattle.dw_text.proofs.digits.write_hex.Given as goal
+use Rattle.dw_text.proofs.digits.fill_hex.Given as goal
 
 -- the digits of what is left, before those that stand, are the number's
 abbrev pub invariant-loop-rest : goal.invariant-loop-rest

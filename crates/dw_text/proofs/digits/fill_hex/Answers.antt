@@ -1,6 +1,6 @@
 use Rattle.std.proofs.Common.{◌≡◌, ◌+◌, ◌-◌, ◌/◌, ◌<◌, ◌∷◌, sym, ap, ◌∙◌, drop, set, length-set, arith}
 use Rattle.dw_text.proofs.Fill.{onto, onto_begin, onto_more, onto_last, put_before, quotient_small, left_above}
-use Rattle.dw_text.proofs.digits.write_hex.Goals as goal
+use Rattle.dw_text.proofs.digits.fill_hex.Goals as goal
 
 pub loop-rest-init : goal.loop-rest-init
 loop-rest-init c =

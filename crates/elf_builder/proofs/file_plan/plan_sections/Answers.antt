@@ -1,7 +1,7 @@
 use Rattle.std.proofs.Common.{map, sym, ◌∙◌, refl}
 use Rattle.elf_builder.specs.Given.{given}
 use Rattle.elf_builder.proofs.Steps.{left_from, contents_step, names_step, headers_step, none_left, contents_end, names_end, headers_end, names_begin}
-use Rattle.elf_builder.proofs.layout.laid_out.Goals as goal
+use Rattle.elf_builder.proofs.file_plan.plan_sections.Goals as goal
 
 pub loop-section-init : goal.loop-section-init
 loop-section-init c = record {
@@ -14,9 +14,9 @@ pub loop-section-preserved : goal.loop-section-preserved
 loop-section-preserved c =
     let front = left_from c.args.sections.now c.loop-section.section-index c.section-item.result c.loop-section-test.true c.section-item.is in
     record {
-      contents = contents_step _ _ (given c.section-item.result) _ _ front c.in-Ok.ensures.contents ∙ c.loop-section.invariant.contents;
-      names = names_step _ _ (given c.section-item.result) _ _ front c.in-Ok.ensures.names ∙ c.loop-section.invariant.names;
-      headers = headers_step _ _ _ _ _ _ (given c.section-item.result) _ _ front c.in-Ok.ensures.names c.in-Ok.ensures.contents c.in-Ok.ensures.headers ∙ c.loop-section.invariant.headers;
+      contents = contents_step _ _ (given c.section-item.result) _ _ front c.in_ok-plan_section.ensures.contents ∙ c.loop-section.invariant.contents;
+      names = names_step _ _ (given c.section-item.result) _ _ front c.in_ok-plan_section.ensures.names ∙ c.loop-section.invariant.names;
+      headers = headers_step _ _ _ _ _ _ (given c.section-item.result) _ _ front c.in_ok-plan_section.ensures.names c.in_ok-plan_section.ensures.contents c.in_ok-plan_section.ensures.headers ∙ c.loop-section.invariant.headers;
     }
 
 pub returns-clause-contents : goal.returns-clause-contents

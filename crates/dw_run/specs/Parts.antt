@@ -1,4 +1,4 @@
--- What the commands tell of each unit.
+-- What the commands print of each unit.
 use Rattle.std.specs.Prelude.{ℕ, List, length, Result, Ok}
 use Rattle.dw_fields.specs.declared.fault_code.Fault.{Fault}
 use Rattle.dw_fields.specs.Reading.{◌>>=◌}
@@ -14,9 +14,9 @@ use Rattle.unit_text.specs.Lists.{lists_text}
 use Rattle.unit_text.specs.Pieces.{Text}
 use Rattle.unit_text.specs.UnitLine.{unit_line}
 use Rattle.unit_text.specs.Units.{read_unit_text}
-use Rattle.dw_run.specs.declared.unit_parts.Part.{Part}
-use Rattle.dw_run.specs.declared.unit_parts.Part.TheVariants as parts
-use Rattle.dw_run.specs.Told.{Told, units_told}
+use Rattle.dw_run.specs.declared.parts.Part.{Part}
+use Rattle.dw_run.specs.declared.parts.Part.TheVariants as parts
+use Rattle.dw_run.specs.CommandTexts.{CommandText, units_printed}
 
 -- the units of a file's sections
 abbrev pub units_of : SectionsView → Units
@@ -50,10 +50,10 @@ unit_part part s i = do
   part_of part s header
 
 -- a part of each unit of these sections
-pub record UnitsView : Type 0 where
+pub record PartView : Type 0 where
   pub part : Part
   pub sections : SectionsView
 
 -- a part of all units
-unfoldable pub units_part_told : Part → SectionsView → Told
-units_part_told part s = units_told (unit_part part s) 0 (unit_count s.info s.order)
+unfoldable pub part_of_units : Part → SectionsView → CommandText
+part_of_units part s = units_printed (unit_part part s) 0 (unit_count s.info s.order)

@@ -13,7 +13,8 @@ use bumpalo::Bump;
 use elf_sections::Sections;
 use entry_tree::{Entry, read_entries, root_facts};
 use form_values::UnitFacts;
-use line_text::write_lines;
+use line_programs::PathTexts;
+use line_text::write_lines_with;
 use std::alloc::Global;
 use unit_headers::{UnitHeader, UnitRefusal};
 use unit_text::{write_lists, write_unit, write_unit_line};
@@ -32,7 +33,7 @@ pub enum Part {
 }
 
 /// Appends this part of the unit of a header, which is one of these sections. The unit's entries
-/// lie in the arena.
+/// lie in the arena. The finder of texts is that of the sections; all units are written with one.
 ///
 /// # Errors
 /// The first fault of the part, or want of memory; `out` is then as it was.
@@ -42,13 +43,16 @@ pub fn append_part(
     part: Part,
     arena: &Bump,
     sections: &Sections<'_>,
+    texts: &mut PathTexts<'_>,
     header: &UnitHeader,
     out: &mut Vec<u8>,
 ) -> Result<(), UnitRefusal>
     requires unit { IsUnitOf (sections_view sections.now) header.now }
     requires short { AreShort (sections_view sections.now) }
-    ensures { Writes result out.old.items out.new.items
+    requires texts { texts.old ≡ sections_view sections.now }
+    ensures text { Writes result out.old.items out.new.items
         (part_of part (sections_view sections.now) header.now) }
+    ensures texts { texts.new ≡ texts.old }
 {
     match part {
         Part::Line => Ok(write_unit_line(alloc, header, out)?),
@@ -58,7 +62,7 @@ pub fn append_part(
         }
         Part::LineTable => {
             let facts = read_facts(sections, header)?;
-            write_lines(alloc, sections, header, &facts, out)
+            write_lines_with(alloc, texts, header, &facts, out)
         }
         Part::Lists => {
             let (facts, entries) = read_unit(arena, sections, header)?;

@@ -13,6 +13,7 @@ use crate::unit_texts::{UnitTexts, print_units};
 use bumpalo::Bump;
 use dw_outside::{Sink, WriteStop};
 use elf_sections::Sections;
+use line_programs::PathTexts;
 use std::alloc::Global;
 use std::marker::Model;
 use unit_headers::{UnitIndex, UnitRefusal};
@@ -23,6 +24,8 @@ struct UnitParts<'f> {
     alloc: Global,
     part: Part,
     sections: Sections<'f>,
+    /// Of all units, so that no text is walked over for each of them.
+    texts: PathTexts<'f>,
     index: UnitIndex<'f>,
     arena: Bump,
 }
@@ -37,7 +40,8 @@ impl<'f> Model for UnitParts<'f> {
     ghost view = { λ u. record { part = u.part; sections = sections_view u.sections } };
 
     ghost invariant = { λ u. (u.index ≡ units_of (sections_view u.sections))
-        × AreShort (sections_view u.sections) };
+        × AreShort (sections_view u.sections)
+        × (u.texts ≡ sections_view u.sections) };
 }
 
 impl<'f> UnitParts<'f> {
@@ -47,10 +51,12 @@ impl<'f> UnitParts<'f> {
         requires short { AreShort (sections_view sections) }
         ensures { result ≡ record { part = part; sections = sections_view sections.entry } }
     {
+        let texts = PathTexts::new(&sections);
         UnitParts {
             alloc,
             part,
             sections,
+            texts,
             index,
             arena: Bump::new(alloc),
         }
@@ -77,6 +83,7 @@ impl<'f> UnitTexts for UnitParts<'f> {
             self.part,
             &self.arena,
             &self.sections,
+            &mut self.texts,
             &header,
             out,
         );

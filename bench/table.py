@@ -5,9 +5,12 @@
 insert, and `counted` the same array with the atomic steps of the proved table: its count and its second exchange.
 
 Used by hand, after `rt run` or `rt ci` left crates/table_load/out/table_load (or TABLE_LOAD names it). All
-programs take the same words, make the same calls in as many threads, print the same counts, and time three phases
-by the clock: neither the table's making nor the process's start is in them, and all keys were looked up once before. A figure is the best of REPEATS runs, in
-which the programs take turns. With a number N the tables have 2^N cells (6 to 22; 20 without it).
+programs take the same words, make the same calls in as many threads, print the same counts, and time their phases
+by the clock: neither the table's making nor the process's start is in them, and all keys were looked up once before.
+A figure is the best of REPEATS runs, in which the programs take turns. With a number N the tables have 2^N cells
+(6 to 22; 20 without it). docs/GATE.md keeps the figures.
+
+In the row 'inserts beside finds' half of the threads look half of the keys up while the others insert the rest.
 """
 
 import os
@@ -20,7 +23,6 @@ import tempfile
 TOP = os.path.dirname(os.path.dirname(os.path.abspath(__file__)))
 HERE = os.path.join(TOP, "bench", "table")
 TABLE_LOAD = os.environ.get("TABLE_LOAD", os.path.join(TOP, "crates", "table_load", "out", "table_load"))
-PHASES = ["insert", "present", "absent"]
 REPEATS = int(os.environ.get("REPEATS", "5"))
 THREADS = [1, 2, 4]
 GCC = ["gcc", "-O2", "-pthread"]
@@ -54,8 +56,8 @@ def best(programs, words):
             counts = counts or counted
             if counted != counts:
                 sys.exit(f"{name} counts {counted} and not {counts} with the words {words}")
-            for phase in PHASES:
-                least[name, phase] = min(taken[phase], least.get((name, phase), taken[phase]))
+            for phase, time in taken.items():
+                least[name, phase] = min(time, least.get((name, phase), time))
     return least
 
 
@@ -87,6 +89,10 @@ def main():
                 if threads > 1:
                     same = best(programs, [threads, capacity, keys, 0, "same"])
                     show(programs, f"{fill:5} {'insert, the same keys':28} {threads:7}", "insert", keys * threads, same)
+                    mixed = best(programs, [threads, capacity, keys, 1, "mixed"])
+                    calls = keys // 2 * (threads // 2) + keys - keys // 2
+                    show(programs, f"{fill:5} {'inserts beside finds':28} {threads:7}", "mixed", calls, mixed)
+                show(programs, f"{fill:5} {'insert, keys that are there':28} {threads:7}", "again", keys, own)
                 show(programs, f"{fill:5} {'find, present':28} {threads:7}", "present", keys * threads * rounds, own)
                 show(programs, f"{fill:5} {'find, absent':28} {threads:7}", "absent", keys * threads * rounds, own)
 

@@ -12,7 +12,7 @@
 struct cell { _Atomic uint64_t key, value; };
 struct tally { uint64_t placed, found, full, hits, missing, sum; };
 struct caller { uint64_t index; struct tally tally; pthread_t thread; };
-enum phase { EMPTY, INSERT, PRESENT, ABSENT };
+enum phase { EMPTY, INSERT, PRESENT, ABSENT, MIXED };
 
 static struct cell *cells;
 static uint64_t count;
@@ -22,7 +22,7 @@ static int shift;
 static _Alignas(64) _Atomic uint64_t counted;
 #endif
 static uint64_t threads, keys, rounds;
-static int same;
+static int same, mixed;
 static enum phase phase;
 
 static inline uint64_t key_of(uint64_t number) {
@@ -93,19 +93,25 @@ static inline void find(struct tally *tally, uint64_t key) {
   }
 }
 
+static void insert_share(struct tally *tally, uint64_t first, uint64_t size, uint64_t index, uint64_t parts) {
+  uint64_t to = first + size * (index + 1) / parts;
+  for (uint64_t number = first + size * index / parts; number < to; number++) insert(tally, key_of(number), number + 1);
+}
+
+static void find_all(struct tally *tally, uint64_t from, uint64_t size, uint64_t times) {
+  for (uint64_t round = 0; round < times; round++)
+    for (uint64_t number = from; number < from + size; number++) find(tally, key_of(number));
+}
+
 static void *work(void *argument) {
   struct caller *caller = argument;
   struct tally tally = caller->tally;
-  if (phase == INSERT) {
-    uint64_t from = same ? 0 : keys * caller->index / threads;
-    uint64_t to = same ? keys : keys * (caller->index + 1) / threads;
-    for (uint64_t number = from; number < to; number++) insert(&tally, key_of(number), number + 1);
-  } else {
-    uint64_t from = phase == ABSENT ? keys : 0;
-    uint64_t times = phase == EMPTY ? 1 : rounds;
-    for (uint64_t round = 0; round < times; round++)
-      for (uint64_t number = from; number < from + keys; number++) find(&tally, key_of(number));
-  }
+  uint64_t index = caller->index, half = keys / 2;
+  if (phase == INSERT && same) insert_share(&tally, 0, keys, 0, 1);
+  else if (phase == INSERT) insert_share(&tally, 0, mixed ? half : keys, index, threads);
+  else if (phase == MIXED && index % 2) insert_share(&tally, half, keys - half, index / 2, threads / 2);
+  else if (phase == MIXED) find_all(&tally, 0, half, rounds);
+  else find_all(&tally, phase == ABSENT ? keys : 0, keys, phase == EMPTY ? 1 : rounds);
   caller->tally = tally;
   return NULL;
 }
@@ -130,6 +136,7 @@ int main(int argc, char **argv) {
   keys = strtoull(argv[3], NULL, 10);
   rounds = strtoull(argv[4], NULL, 10);
   same = strcmp(argv[5], "same") == 0;
+  mixed = strcmp(argv[5], "mixed") == 0;
   int bits = 6;
   while (3 * (1ull << bits) < 4 * (capacity + threads)) bits++;
   count = 1ull << bits;
@@ -140,7 +147,9 @@ int main(int argc, char **argv) {
   memset(cells, 0, count * sizeof *cells);
   for (uint64_t i = 0; i < threads; i++) callers[i].index = i;
   run(EMPTY, callers);
-  uint64_t inserts = run(INSERT, callers), hits = run(PRESENT, callers), misses = run(ABSENT, callers);
+  uint64_t inserts = run(INSERT, callers);
+  uint64_t beside = mixed ? run(MIXED, callers) : 0, again = mixed ? 0 : run(INSERT, callers);
+  uint64_t hits = mixed ? 0 : run(PRESENT, callers), misses = mixed ? 0 : run(ABSENT, callers);
   struct tally all = {0};
   for (uint64_t i = 0; i < threads; i++) {
     struct tally *one = &callers[i].tally;
@@ -149,6 +158,7 @@ int main(int argc, char **argv) {
   }
   printf("placed %lu\nfound %lu\nfull %lu\n", all.placed, all.found, all.full);
   printf("hits %lu\nmissing %lu\nsum %lu\n", all.hits, all.missing, all.sum);
-  if (argc > 6) printf("insert %lu ns\npresent %lu ns\nabsent %lu ns\n", inserts, hits, misses);
+  if (argc > 6 && mixed) printf("mixed %lu ns\n", beside);
+  else if (argc > 6) printf("insert %lu ns\nagain %lu ns\npresent %lu ns\nabsent %lu ns\n", inserts, again, hits, misses);
   return 0;
 }

@@ -18,7 +18,14 @@ struct Load {
     threads: u64,
     keys: u64,
     rounds: u64,
-    same: bool,
+    mode: Mode,
+}
+
+#[derive(Clone, Copy, PartialEq)]
+enum Mode {
+    Own,
+    Same,
+    Mixed,
 }
 
 #[derive(Clone, Copy)]
@@ -27,6 +34,7 @@ enum Phase {
     Insert,
     Present,
     Absent,
+    Mixed,
 }
 
 type Shared = Mutex<HashMap<u64, u64>>;
@@ -60,29 +68,37 @@ fn find(map: &Shared, tally: &mut Tally, key: u64) {
     }
 }
 
+fn insert_share(map: &Shared, tally: &mut Tally, first: u64, count: u64, index: u64, parts: u64) {
+    for number in first + count * index / parts..first + count * (index + 1) / parts {
+        insert(map, tally, key_of(number), number + 1);
+    }
+}
+
+fn find_all(map: &Shared, tally: &mut Tally, first: u64, count: u64, rounds: u64) {
+    for _ in 0..rounds {
+        for number in first..first + count {
+            find(map, tally, key_of(number));
+        }
+    }
+}
+
 impl Load {
     fn work(&self, map: &Shared, phase: Phase, index: u64, before: Tally) -> Tally {
         let mut tally = before;
-        let first = match phase {
-            Phase::Insert => {
-                let (from, to) = if self.same {
-                    (0, self.keys)
-                } else {
-                    (self.keys * index / self.threads, self.keys * (index + 1) / self.threads)
-                };
-                for number in from..to {
-                    insert(map, &mut tally, key_of(number), number + 1);
-                }
-                return tally;
+        let half = self.keys / 2;
+        match phase {
+            Phase::Insert => match self.mode {
+                Mode::Own => insert_share(map, &mut tally, 0, self.keys, index, self.threads),
+                Mode::Same => insert_share(map, &mut tally, 0, self.keys, 0, 1),
+                Mode::Mixed => insert_share(map, &mut tally, 0, half, index, self.threads),
+            },
+            Phase::Mixed if index % 2 == 0 => find_all(map, &mut tally, 0, half, self.rounds),
+            Phase::Mixed => {
+                insert_share(map, &mut tally, half, self.keys - half, index / 2, self.threads / 2)
             }
-            Phase::Empty | Phase::Present => 0,
-            Phase::Absent => self.keys,
-        };
-        let rounds = if matches!(phase, Phase::Empty) { 1 } else { self.rounds };
-        for _ in 0..rounds {
-            for number in first..first + self.keys {
-                find(map, &mut tally, key_of(number));
-            }
+            Phase::Empty => find_all(map, &mut tally, 0, self.keys, 1),
+            Phase::Present => find_all(map, &mut tally, 0, self.keys, self.rounds),
+            Phase::Absent => find_all(map, &mut tally, self.keys, self.keys, self.rounds),
         }
         tally
     }
@@ -108,7 +124,11 @@ fn main() {
         threads: number(0),
         keys: number(2),
         rounds: number(3),
-        same: words[4] == "same",
+        mode: match words[4].as_str() {
+            "same" => Mode::Same,
+            "mixed" => Mode::Mixed,
+            _ => Mode::Own,
+        },
     };
     // filled once before the times are taken, so that its memory is there
     let mut map: HashMap<u64, u64> = (0..number(1)).map(|key| (key, key)).collect();
@@ -117,8 +137,15 @@ fn main() {
     let mut tallies = vec![Tally::default(); load.threads as usize];
     load.run(&map, Phase::Empty, &mut tallies);
     let inserts = load.run(&map, Phase::Insert, &mut tallies);
-    let hits = load.run(&map, Phase::Present, &mut tallies);
-    let misses = load.run(&map, Phase::Absent, &mut tallies);
+    let phases = match load.mode {
+        Mode::Mixed => vec![("mixed", load.run(&map, Phase::Mixed, &mut tallies))],
+        _ => vec![
+            ("insert", inserts),
+            ("again", load.run(&map, Phase::Insert, &mut tallies)),
+            ("present", load.run(&map, Phase::Present, &mut tallies)),
+            ("absent", load.run(&map, Phase::Absent, &mut tallies)),
+        ],
+    };
     let all = tallies.iter().fold(Tally::default(), |all, one| Tally {
         placed: all.placed + one.placed,
         found: all.found + one.found,
@@ -130,6 +157,8 @@ fn main() {
     println!("placed {}\nfound {}\nfull {}", all.placed, all.found, all.full);
     println!("hits {}\nmissing {}\nsum {}", all.hits, all.missing, all.sum);
     if words.len() > 5 {
-        println!("insert {inserts} ns\npresent {hits} ns\nabsent {misses} ns");
+        for (phase, time) in phases {
+            println!("{phase} {time} ns");
+        }
     }
 }

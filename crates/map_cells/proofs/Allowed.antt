@@ -1,5 +1,5 @@
 -- Each step keeps the rule, and tells what its call ensures.
-use Rattle.std.proofs.Common.{◌≡◌, ℕ, ◌+◌, ◌<◌, ◌≤◌, true, List, [], ◌∷◌, ◌++◌, length, set, slice_index, Some, if◌then◌else◌, ◌==◌, refl, sym, ap, subst, ◌∙◌, arith, append-nil}
+use Rattle.std.proofs.Common.{◌≡◌, ℕ, ◌+◌, ◌<◌, ◌≤◌, true, List, [], ◌∷◌, length, set, slice_index, Some, if◌then◌else◌, ◌==◌, refl, sym, ap, subst, ◌∙◌, arith}
 use Rattle.std.proofs.lemmas.List.{set-get_or}
 use mathlib.Core.Option.{some, none}
 use lib.ListN.{get_elem?}
@@ -9,35 +9,32 @@ use Rattle.atomic_table.specs.Table.{State, step, keeps, Allows}
 use Rattle.map_core.specs.declared.entry.Entry.{Entry}
 use Rattle.map_core.specs.declared.view.View.{View}
 use Rattle.map_core.specs.History.{value_in, by_any, StartsWithOwn}
+use Rattle.map_core.specs.declared.places.TheConstants.{COUNT_WORD}
 use Rattle.map_core.specs.Places.{offset, word_count, key_place, value_place, cells_in, IsCell}
 use Rattle.map_core.specs.Machine.{greatest, IsWord, state_of, Sound}
-use Rattle.map_core.specs.Events.{Event, Lawful}
-use Rattle.map_core.specs.Calls.{own}
-use Rattle.map_core.specs.Passes.{look, cell, drop_claim, all_numbers, placed, PassAt, Together, Turn, Told}
+use Rattle.map_core.specs.Events.{Event, IsStep, Lawful}
+use Rattle.map_core.specs.Passes.{look, cell, drop_claim, all_numbers, placed, PassAt, Together, Turn, PassFacts}
 use Rattle.map_core.specs.Knowing.{sees, reads, counts_seen}
 use Rattle.map_core.proofs.PlaceLemmas.{value_value}
 use Rattle.map_core.proofs.WordLemmas.{reaches_on, keeps_value}
-use Rattle.map_core.proofs.HistoryLemmas.{by_append}
+use Rattle.map_core.proofs.CallLemmas.{own_stays}
 use Rattle.map_core.proofs.SoundLemmas.{lawful_sound}
 use Rattle.map_core.proofs.PassLemmas.{turns, there_below}
 use Rattle.map_core.proofs.TurnLemmas.{look_hit, seen_more, sees_turn, counts_seen_turn, reads_turn}
 use Rattle.map_core.proofs.CountLemmas.{log_small, total_le}
-use Rattle.map_core.proofs.TellLemmas.{tells}
+use Rattle.map_core.proofs.FactLemmas.{whole_facts}
 use Rattle.map_core.proofs.AbsentLemmas.{absent_at_empty, absent_unset}
 use Rattle.map_cells.specs.declared.about.About.{About}
 use Rattle.map_cells.specs.Steps.{Looks}
-use Rattle.map_cells.specs.Rule.{Kept, KeyLooked, ValueLooked, CountLooked}
+use Rattle.map_cells.specs.Whole.{MakesStep}
+use Rattle.map_cells.specs.Rule.{TableHolds, KeyLooked, ValueLooked, CountLooked}
 use Rattle.map_cells.proofs.WordSteps.{same_place}
 
 -- a table of this pass's sizes
 abbrev pub about : View → Tag → About
 about v t = record { layout = v.layout; tag = t }
 
--- a step that adds nothing leaves the pass's own entries
-pub own_stays : (v : View) (front : List Entry) → StartsWithOwn v.numbers v.front front → by_any v.numbers front ≡ own v
-own_stays v front p = sym (ap (by_any v.numbers) p.joins) ∙ (by_append v.numbers v.front p.rest ∙ (ap (λ (x : List Entry). own v ++ x) p.others ∙ append-nil (own v)))
-
-module _ (fits : List ℕ → ℕ → ℕ → Type 0) (t : Tag) (id : ℕ) (v : View) (live : v.live ≡ true) (s : State (Unit {0}) View) (kept : Kept fits (about v t) s) (at : get_elem? s.views id ≡ some v) where
+module _ (fits : List ℕ → ℕ → ℕ → Type 0) (t : Tag) (id : ℕ) (v : View) (live : v.live ≡ true) (s : State (Unit {0}) View) (kept : TableHolds fits (about v t) s) (at : get_elem? s.views id ≡ some v) where
   pub sound_now : Sound v.layout (fits t.numbers) (state_of v.layout s.words kept.log)
   sound_now = lawful_sound v.layout (fits t.numbers) kept.events (state_of v.layout s.words kept.log) kept.lawful
 
@@ -46,7 +43,7 @@ module _ (fits : List ℕ → ℕ → ℕ → Type 0) (t : Tag) (id : ℕ) (v : 
 
   -- the rule after a turn
   pub keep_turn : (ws : List ℕ) (log : List Entry) (events : List Event) (w : View) → Lawful v.layout (fits t.numbers) events (state_of v.layout ws log) → length ws ≡ word_count v.layout
-      → Turn v.layout t.numbers (state_of v.layout s.words kept.log) (state_of v.layout ws log) id v w → Kept fits (about v t) record { words = ws; homes = s.homes; views = set s.views id w }
+      → Turn v.layout t.numbers (state_of v.layout s.words kept.log) (state_of v.layout ws log) id v w → TableHolds fits (about v t) record { words = ws; homes = s.homes; views = set s.views id w }
   keep_turn ws log events w lawful size turn =
       record {
         events = events;
@@ -57,23 +54,38 @@ module _ (fits : List ℕ → ℕ → ℕ → Type 0) (t : Tag) (id : ℕ) (v : 
       }
 
   -- and what the pass then knows by itself
-  pub tell_turn : (ws : List ℕ) (log : List Entry) (events : List Event) (w : View) → Lawful v.layout (fits t.numbers) events (state_of v.layout ws log) → length ws ≡ word_count v.layout
-      → Turn v.layout t.numbers (state_of v.layout s.words kept.log) (state_of v.layout ws log) id v w → w.front ≡ log → w.beside ≡ [] → w.beside_numbers ≡ [] → Told fits w
-  tell_turn ws log events w lawful size turn front beside alone =
+  pub turn_facts : (ws : List ℕ) (log : List Entry) (events : List Event) (w : View) → Lawful v.layout (fits t.numbers) events (state_of v.layout ws log) → length ws ≡ word_count v.layout
+      → Turn v.layout t.numbers (state_of v.layout s.words kept.log) (state_of v.layout ws log) id v w → w.front ≡ log → w.beside ≡ [] → w.beside_numbers ≡ [] → PassFacts fits w
+  turn_facts ws log events w lawful size turn front beside alone =
       let so = lawful_sound v.layout (fits t.numbers) events (state_of v.layout ws log) lawful in
       let few = log_small v.layout (fits t.numbers) ws log so.history in
-      tells v.layout fits t.numbers (state_of v.layout ws log) (set s.views id w) id w so
+      whole_facts v.layout fits t.numbers (state_of v.layout ws log) (set s.views id w) id w so
       (turns v.layout t.numbers (state_of v.layout s.words kept.log) (state_of v.layout ws log) s.views id v w at kept.together turn)
       (set_here s.views id w (there_below s.views id v at)) turn.live.1 front beside alone (subst (λ (n : ℕ). length log ≤ n) size few)
 
+  -- the event that a step was
+  pub made : (e : Event) (ws : List ℕ) (log : List Entry) (w : View) → IsStep v.layout (fits t.numbers) e (state_of v.layout s.words kept.log) (state_of v.layout ws log)
+      → Turn v.layout t.numbers (state_of v.layout s.words kept.log) (state_of v.layout ws log) id v w → MakesStep fits e v w
+  made e ws log w is_step turn =
+      let tag = sym pass_now.tag in
+      record {
+        events = kept.events;
+        before = state_of v.layout s.words kept.log;
+        after = state_of v.layout ws log;
+        lawful = subst (λ (x : List ℕ). Lawful v.layout (fits x) kept.events (state_of v.layout s.words kept.log)) tag kept.lawful;
+        is_step = subst (λ (x : List ℕ). IsStep v.layout (fits x) e (state_of v.layout s.words kept.log) (state_of v.layout ws log)) tag is_step;
+        history = turn.whole;
+        known = turn.at.knows;
+      }
+
   -- a load keeps the rule
   pub keep_load : (q : ℕ) (w : View) → Turn v.layout t.numbers (state_of v.layout s.words kept.log) (state_of v.layout s.words kept.log) id v w
-      → Kept fits (about v t) record { words = set s.words q (slice_index s.words q); homes = s.homes; views = set s.views id w }
+      → TableHolds fits (about v t) record { words = set s.words q (slice_index s.words q); homes = s.homes; views = set s.views id w }
   keep_load q w turn =
-      subst (λ (ws : List ℕ). Kept fits (about v t) record { words = ws; homes = s.homes; views = set s.views id w }) (sym (set-get_or s.words q 0)) (keep_turn s.words kept.log kept.events w kept.lawful kept.size turn)
+      subst (λ (ws : List ℕ). TableHolds fits (about v t) record { words = ws; homes = s.homes; views = set s.views id w }) (sym (set-get_or s.words q 0)) (keep_turn s.words kept.log kept.events w kept.lawful kept.size turn)
 
-  pub tell_load : (w : View) → Turn v.layout t.numbers (state_of v.layout s.words kept.log) (state_of v.layout s.words kept.log) id v w → w.front ≡ kept.log → w.beside ≡ [] → w.beside_numbers ≡ [] → Told fits w
-  tell_load w turn = tell_turn s.words kept.log kept.events w kept.lawful kept.size turn
+  pub load_facts : (w : View) → Turn v.layout t.numbers (state_of v.layout s.words kept.log) (state_of v.layout s.words kept.log) id v w → w.front ≡ kept.log → w.beside ≡ [] → w.beside_numbers ≡ [] → PassFacts fits w
+  load_facts w turn = turn_facts s.words kept.log kept.events w kept.lawful kept.size turn
 
   -- one more word was seen, and nothing else changed
   pub saw : (q n : ℕ) → cells_in v.layout s.words q ≡ n → (w : View) → w.known ≡ (q, n) ∷ v.known → w.front ≡ kept.log
@@ -97,53 +109,54 @@ module _ (fits : List ℕ → ℕ → ℕ → Type 0) (t : Tag) (id : ℕ) (v : 
         own = ap (λ (ns : List ℕ). by_any ns w.front) same.3 ∙ own_stays v w.front mine;
       }
 
-module _ (fits : List ℕ → ℕ → ℕ → Type 0) (t : Tag) (slots id : ℕ) (v : View) (c : List (ℕ × Unit {0})) (told : Told fits v) where
-  pub look_allowed : (g i q : ℕ) → IsCell v.layout g i → q ≡ key_place v.layout g i + offset v.layout → Allows (Kept fits (about v t)) slots id (v, c) q (λ n. n) (KeyLooked fits (step slots q 0 0 none) (v, c))
+module _ (fits : List ℕ → ℕ → ℕ → Type 0) (t : Tag) (slots id : ℕ) (v : View) (c : List (ℕ × Unit {0})) (facts : PassFacts fits v) where
+  pub look_allowed : (g i q : ℕ) → IsCell v.layout g i → q ≡ key_place v.layout g i + offset v.layout → Allows (TableHolds fits (about v t)) slots id (v, c) q (λ n. n) (KeyLooked fits (step slots q 0 0 none) (v, c))
   look_allowed g i q a place s kept homes at small =
       let p : ℕ = key_place v.layout g i in
       let n : ℕ = slice_index s.words q in
       let C : ℕ → ℕ = cells_in v.layout s.words in
       let is : C p ≡ n = ap (slice_index s.words) (sym place) in
       let w : View = sees v kept.log p n in
-      let so = sound_now fits t id v told.live s kept at in
-      let here = pass_now fits t id v told.live s kept at in
-      let turn = sees_turn v.layout t.numbers (state_of v.layout s.words kept.log) id v told.live here p n is in (
+      let so = sound_now fits t id v facts.live s kept at in
+      let here = pass_now fits t id v facts.live s kept at in
+      let turn = sees_turn v.layout t.numbers (state_of v.layout s.words kept.log) id v facts.live here p n is in (
         w,
         keeps,
         tt,
-        keep_load fits t id v told.live s kept at q w turn,
+        keep_load fits t id v facts.live s kept at q w turn,
         record {
           slots = refl;
           seen = λ h j b at_q.
               let same : p ≡ key_place v.layout h j = same_place v.layout p (key_place v.layout h j) (sym place ∙ at_q) in
               let there : C (key_place v.layout h j) ≡ n = ap C (sym same) ∙ is in
               record {
-                looks = saw fits t id v told.live s kept at p n is w refl refl (refl, refl, refl, refl, refl, refl, refl, refl);
-                told = tell_load fits t id v told.live s kept at w turn refl told.alone.0 told.alone.1;
+                looks = saw fits t id v facts.live s kept at p n is w refl refl (refl, refl, refl, refl, refl, refl, refl, refl);
+                facts = load_facts fits t id v facts.live s kept at w turn refl facts.alone.0 facts.alone.1;
                 claim = refl;
                 uncounted = refl;
                 counted = refl;
+                same_count = refl;
                 word = look_hit v.known p n (key_place v.layout h j) same;
                 unsealed = λ last. subst (λ (x : ℕ). x < greatest) (ap (λ (x : ℕ). C (key_place v.layout x j)) (sym last) ∙ there) (so.cells.last_open j (subst (λ (x : ℕ). j < Rattle.map_core.specs.Sizes.cells_of x) last b.1)).0;
-                absent = λ k empty walk closed. absent_at_empty v.layout C (fits t.numbers) kept.log so.cells so.history h j k b (there ∙ empty) (reaches_on v.layout (look v.known) C here.knows h j k walk);
+                absent = λ k word empty walk closed. absent_at_empty v.layout C (fits t.numbers) kept.log so.cells so.history h j k b (there ∙ empty) (reaches_on v.layout (look v.known) C here.knows h j k walk);
               };
         },
       )
 
-  pub read_allowed : (g i q : ℕ) → IsCell v.layout g i → q ≡ value_place v.layout g i + offset v.layout → Allows (Kept fits (about v t)) slots id (v, c) q (λ n. n) (ValueLooked fits (step slots q 0 0 none) (v, c))
+  pub read_allowed : (g i q : ℕ) → IsCell v.layout g i → q ≡ value_place v.layout g i + offset v.layout → Allows (TableHolds fits (about v t)) slots id (v, c) q (λ n. n) (ValueLooked fits (step slots q 0 0 none) (v, c))
   read_allowed g i q a place s kept homes at small =
       let p : ℕ = value_place v.layout g i in
       let n : ℕ = slice_index s.words q in
       let C : ℕ → ℕ = cells_in v.layout s.words in
       let is : C p ≡ n = ap (slice_index s.words) (sym place) in
       let w : View = reads v.layout v kept.log g i n in
-      let so = sound_now fits t id v told.live s kept at in
-      let here = pass_now fits t id v told.live s kept at in
-      let turn = reads_turn v.layout t.numbers (state_of v.layout s.words kept.log) id v told.live here g i n a is in (
+      let so = sound_now fits t id v facts.live s kept at in
+      let here = pass_now fits t id v facts.live s kept at in
+      let turn = reads_turn v.layout t.numbers (state_of v.layout s.words kept.log) id v facts.live here g i n a is in (
         w,
         keeps,
         tt,
-        keep_load fits t id v told.live s kept at q w turn,
+        keep_load fits t id v facts.live s kept at q w turn,
         record {
           slots = refl;
           seen = λ h j b at_q.
@@ -151,35 +164,36 @@ module _ (fits : List ℕ → ℕ → ℕ → Type 0) (t : Tag) (slots id : ℕ)
               let one = value_value v.layout g i h j a b same in
               let there : C (value_place v.layout h j) ≡ n = ap C (sym same) ∙ is in
               record {
-                looks = saw fits t id v told.live s kept at p n is w refl refl (refl, refl, refl, refl, refl, refl, refl, refl);
-                told = tell_load fits t id v told.live s kept at w turn refl told.alone.0 told.alone.1;
+                looks = saw fits t id v facts.live s kept at p n is w refl refl (refl, refl, refl, refl, refl, refl, refl, refl);
+                facts = load_facts fits t id v facts.live s kept at w turn refl facts.alone.0 facts.alone.1;
                 claim = λ x. if n == 0 then v.claim else drop_claim v.claim (one.0 x) (one.1 x);
                 uncounted = refl;
                 counted = refl;
+                same_count = refl;
                 word = look_hit v.known p n (value_place v.layout h j) same;
                 unclosed = λ last. subst (λ (x : ℕ). x < greatest) (ap (λ (x : ℕ). C (value_place v.layout x j)) (sym last) ∙ there) (so.cells.last_open j (subst (λ (x : ℕ). j < Rattle.map_core.specs.Sizes.cells_of x) last b.1)).1;
-                absent = λ k unset word key closed. absent_unset v.layout C (fits t.numbers) kept.log so.cells so.history h j k b word (keeps_value (look v.known) C here.knows (key_place v.layout h j) k word.0 key) (there ∙ unset);
-                present = λ k value word key.
+                absent = λ k word unset key closed. absent_unset v.layout C (fits t.numbers) kept.log so.cells so.history h j k b word (keeps_value (look v.known) C here.knows (key_place v.layout h j) k word.0 key) (there ∙ unset);
+                present = λ k word value key.
                     let key_there = keeps_value (look v.known) C here.knows (key_place v.layout h j) k word.0 key in
                     subst (λ (x : ℕ × ℕ). value_in kept.log x.0 ≡ Some x.1) (λ x. (key_there x, there x)) (so.history.kept h j b (subst IsWord (sym key_there) word) (subst IsWord (sym there) value));
               };
         },
       )
 
-  pub count_look_allowed : Allows (Kept fits (about v t)) slots id (v, c) 1 (λ n. n) (CountLooked fits (step slots 1 0 0 none) (v, c))
+  pub count_look_allowed : Allows (TableHolds fits (about v t)) slots id (v, c) COUNT_WORD (λ n. n) (CountLooked fits (step slots COUNT_WORD 0 0 none) (v, c))
   count_look_allowed s kept homes at small =
-      let n : ℕ = slice_index s.words 1 in
+      let n : ℕ = slice_index s.words COUNT_WORD in
       let w : View = counts_seen v kept.log n in
-      let here = pass_now fits t id v told.live s kept at in
-      let turn = counts_seen_turn v.layout t.numbers (state_of v.layout s.words kept.log) id v told.live here in
-      let knows = tell_load fits t id v told.live s kept at w turn refl told.alone.0 told.alone.1 in
+      let here = pass_now fits t id v facts.live s kept at in
+      let turn = counts_seen_turn v.layout t.numbers (state_of v.layout s.words kept.log) id v facts.live here in
+      let knows = load_facts fits t id v facts.live s kept at w turn refl facts.alone.0 facts.alone.1 in
       let mine : StartsWithOwn v.numbers v.front kept.log = here.front in
       let mine_of = total_le (λ u. u.counted) s.views id v at in
       let sum : Rattle.map_core.specs.Passes.total (λ u. u.counted) s.views ≡ n = kept.together.count.counted in (
         w,
         keeps,
         tt,
-        keep_load fits t id v told.live s kept at 1 w turn,
+        keep_load fits t id v facts.live s kept at COUNT_WORD w turn,
         record {
           slots = refl;
           seen = record {
@@ -199,7 +213,7 @@ module _ (fits : List ℕ → ℕ → ℕ → Type 0) (t : Tag) (slots id : ℕ)
               mine = mine;
               own = own_stays v kept.log mine;
             };
-            told = knows;
+            facts = knows;
             claim = refl;
             uncounted = refl;
             counted = refl;

@@ -10,23 +10,25 @@ use Rattle.map_core.specs.declared.layout.Layout.{Layout}
 use Rattle.map_core.specs.declared.view.View.{View}
 use Rattle.map_core.specs.Sizes.{cells_of}
 use Rattle.map_core.specs.History.{value_in, by_any}
-use Rattle.map_core.specs.Places.{lowest, offset, word_count, key_place, value_place, cells_in, IsCell}
+use Rattle.map_core.specs.declared.places.TheConstants.{CURRENT_WORD, COUNT_WORD}
+use Rattle.map_core.specs.Places.{lowest, offset, word_count, key_place, value_place, current_in, count_in, cells_in, IsCell}
 use Rattle.map_core.specs.Machine.{greatest, IsWord, Keeps, state_of, Reaches, IsClosed, IsPublished, IsSettled}
 use Rattle.map_core.specs.Events.{claims, publishes, counts, entry, and_then, Writes, IsStep}
 use Rattle.map_core.specs.Calls.{own}
-use Rattle.map_core.specs.Passes.{look, drop_claim, total, Told}
+use Rattle.map_core.specs.Passes.{look, drop_claim, total, PassFacts}
 use Rattle.map_core.specs.Knowing.{rest_of, sees, reads, grabs, places, tallies, settles}
 use Rattle.map_core.proofs.PlaceLemmas.{key_key, value_value}
 use Rattle.map_core.proofs.WordLemmas.{keeps_at, reaches_on, keeps_value, closed_on, published_on}
 use Rattle.map_core.proofs.HistoryLemmas.{by_append, by_hit}
+use Rattle.map_core.proofs.CallLemmas.{own_stays}
 use Rattle.map_core.proofs.PassLemmas.{keeps_trans, there_below, turns}
 use Rattle.map_core.proofs.TurnLemmas.{look_hit, seen_more, sees_turn, reads_turn, grabs_turn, places_turn, tallies_turn, settles_turn}
 use Rattle.map_core.proofs.CountLemmas.{log_small, total_le, count_le}
 use Rattle.map_core.proofs.AbsentLemmas.{absent_unset}
 use Rattle.map_cells.specs.Steps.{ClosedTo, SettledTo, MayPublish, KeyTried, ValueTried}
-use Rattle.map_cells.specs.Rule.{Kept, Claimed, Published, Counted, Settled}
-use Rattle.map_cells.proofs.WordSteps.{words_small, words_pos, key_within, value_within, same_place, writes_word, count_cells}
-use Rattle.map_cells.proofs.Allowed.{about, own_stays, sound_now, pass_now, keep_turn, tell_turn, keep_load, tell_load, saw}
+use Rattle.map_cells.specs.Rule.{TableHolds, Claimed, Published, Counted, Settled}
+use Rattle.map_cells.proofs.WordSteps.{most_words, words_small, has_count, key_within, value_within, same_place, writes_word, count_cells}
+use Rattle.map_cells.proofs.Allowed.{about, sound_now, pass_now, keep_turn, turn_facts, made, keep_load, load_facts, saw}
 
 -- what is seen settled is so
 settled_on : (l : Layout) (C D : ℕ → ℕ) → Keeps C D → (g k : ℕ) → 0 < k → IsSettled l C g k → IsSettled l D g k
@@ -35,33 +37,33 @@ settled_on l C D keep g k pos =
     (λ (c : IsClosed l C g k). inl (closed_on l C D keep g k pos c))
     (λ (p : (x : ℕ) × IsPublished l C g k x). inr (p.0, published_on l C D keep g k p.0 p.1))
 
-module _ (fits : List ℕ → ℕ → ℕ → Type 0) (t : Tag) (slots id : ℕ) (v : View) (c : List (ℕ × Unit {0})) (told : Told fits v) where
+module _ (fits : List ℕ → ℕ → ℕ → Type 0) (t : Tag) (slots id : ℕ) (v : View) (c : List (ℕ × Unit {0})) (facts : PassFacts fits v) where
   -- what an exchange of the word q for x owes where it leaves y
   abbrev Owes : State (Unit {0}) View → ℕ → ℕ → (ℕ → Me (Unit {0}) View → Type 0) → ℕ → Type 0
-  Owes s q n told_then y = (w : View) × (act : Act (Unit {0})) × Valid s.homes c act × Kept fits (about v t) (stepped s q y id c w act) × told_then n (w, carried_after c act)
+  Owes s q n then_holds y = (w : View) × (act : Act (Unit {0})) × Valid s.homes c act × TableHolds fits (about v t) (stepped s q y id c w act) × then_holds n (w, carried_after c act)
 
   claim_at : (g i k : ℕ) → IsCell v.layout g i → IsWord k → v.claim ≡ None → Reaches v.layout (look v.known) g i k → SettledTo v g k
-      → Allows (Kept fits (about v t)) slots id (v, c) (key_place v.layout g i + offset v.layout) (λ n. either (n == 0) k n) (Claimed fits (step slots (key_place v.layout g i + offset v.layout) 0 k none) (v, c))
+      → Allows (TableHolds fits (about v t)) slots id (v, c) (key_place v.layout g i + offset v.layout) (λ n. either (n == 0) k n) (Claimed fits (step slots (key_place v.layout g i + offset v.layout) 0 k none) (v, c))
   claim_at g i k a word free walk settled s kept homes at small =
       let l : Layout = v.layout in
       let p : ℕ = key_place l g i in
       let q : ℕ = p + offset l in
       let n : ℕ = slice_index s.words q in
       let C : ℕ → ℕ = cells_in l s.words in
-      let so = sound_now fits t id v told.live s kept at in
-      let here = pass_now fits t id v told.live s kept at in
+      let so = sound_now fits t id v facts.live s kept at in
+      let here = pass_now fits t id v facts.live s kept at in
       let low : q < length s.words = subst (λ (x : ℕ). q < x) (sym kept.size) (key_within l g i a) in
       exchanged n 0 k (Owes s q n (Claimed fits (step slots q 0 k none) (v, c)))
       (λ zero_there.
       let ws : List ℕ = set s.words q k in
       let wr : Writes p 0 k (state_of l s.words kept.log) (state_of l ws kept.log) = subst (λ (x : ℕ). Writes p x k (state_of l s.words kept.log) (state_of l ws kept.log)) zero_there (writes_word l s.words kept.log kept.log p k low) in
-      let settle : (h : ℕ) → lowest l + slice_index s.words 0 ≤ h → h < g → IsSettled l C h k = λ h up below.
+      let settle : (h : ℕ) → current_in l s.words ≤ h → h < g → IsSettled l C h k = λ h up below.
       let b = (here.currents settled.from settled.current).1 in
       settled_on l (look v.known) C here.knows h k word.0 (settled.settled h (omega arith) below) in
-      let is_step : IsStep l (fits t.numbers) (claims g i k) (state_of l s.words kept.log) (state_of l ws kept.log) = (a, word, reaches_on l (look v.known) C here.knows g i k walk, settle, wr, refl) in
+      let is_step : IsStep l (fits t.numbers) (claims g i k) (state_of l s.words kept.log) (state_of l ws kept.log) = record { cell = a; key = word; reached = reaches_on l (look v.known) C here.knows g i k walk; settled = settle; word = wr; history = refl } in
       let lawful = and_then kept.events (state_of l s.words kept.log) (claims g i k) (state_of l ws kept.log) kept.lawful is_step in
       let w : View = grabs l v kept.log g i k in
-      let turn = grabs_turn l t.numbers (state_of l s.words kept.log) id v told.live here (state_of l ws kept.log) g i k a word free wr refl in
+      let turn = grabs_turn l t.numbers (state_of l s.words kept.log) id v facts.live here (state_of l ws kept.log) g i k a word free wr refl in
       let size : length ws ≡ word_count l = length-set s.words q k ∙ kept.size in
       let D : ℕ → ℕ = cells_in l ws in
       let knows : Keeps (look v.known) D = keeps_trans (look v.known) C D here.knows (keeps_at p C D wr.was wr.only) in
@@ -83,53 +85,57 @@ module _ (fits : List ℕ → ℕ → ℕ → Type 0) (t : Tag) (slots id : ℕ)
           mine = mine;
           own = own_stays v kept.log mine;
         };
-        told = tell_turn fits t id v told.live s kept at ws kept.log (claims g i k ∷ kept.events) w lawful size turn refl told.alone.0 told.alone.1;
+        facts = turn_facts fits t id v facts.live s kept at ws kept.log (claims g i k ∷ kept.events) w lawful size turn refl facts.alone.0 facts.alone.1;
         uncounted = refl;
         counted = refl;
+        same_count = refl;
         unsealed = λ last. omega arith;
         won = λ z. (refl, look_hit v.known p k p refl);
         lost = λ nz. absurd (nz zero_there);
+        event = λ z. made fits t id v facts.live s kept at (claims g i k) ws kept.log w is_step turn;
       } in (
         w,
         keeps,
         tt,
-        keep_turn fits t id v told.live s kept at ws kept.log (claims g i k ∷ kept.events) w lawful size turn,
+        keep_turn fits t id v facts.live s kept at ws kept.log (claims g i k ∷ kept.events) w lawful size turn,
         record { slots = refl; tried = λ h j b at_q. let one = key_key l g i h j a b (same_place l p (key_place l h j) at_q) in subst (λ (y : ℕ × ℕ). KeyTried fits y.0 y.1 k n v w) (λ x. (one.0 x, one.1 x)) tried },
       ))
       (λ nonzero.
       let w : View = sees v kept.log p n in
-      let turn = sees_turn l t.numbers (state_of l s.words kept.log) id v told.live here p n refl in
+      let turn = sees_turn l t.numbers (state_of l s.words kept.log) id v facts.live here p n refl in
       let tried : KeyTried fits g i k n v w = record {
-        looks = saw fits t id v told.live s kept at p n refl w refl refl (refl, refl, refl, refl, refl, refl, refl, refl);
-        told = tell_load fits t id v told.live s kept at w turn refl told.alone.0 told.alone.1;
+        looks = saw fits t id v facts.live s kept at p n refl w refl refl (refl, refl, refl, refl, refl, refl, refl, refl);
+        facts = load_facts fits t id v facts.live s kept at w turn refl facts.alone.0 facts.alone.1;
         uncounted = refl;
         counted = refl;
+        same_count = refl;
         unsealed = λ last. subst (λ (x : ℕ). x < greatest) (ap (λ (x : ℕ). C (key_place l x i)) (sym last)) (so.cells.last_open i (subst (λ (x : ℕ). i < cells_of x) last a.1)).0;
         won = λ z. absurd (nonzero z);
         lost = λ nz. (refl, look_hit v.known p n p refl);
+        event = λ z. absurd (nonzero z);
       } in (
         w,
         keeps,
         tt,
-        keep_load fits t id v told.live s kept at q w turn,
+        keep_load fits t id v facts.live s kept at q w turn,
         record { slots = refl; tried = λ h j b at_q. let one = key_key l g i h j a b (same_place l p (key_place l h j) at_q) in subst (λ (y : ℕ × ℕ). KeyTried fits y.0 y.1 k n v w) (λ x. (one.0 x, one.1 x)) tried },
       ))
 
   pub claim_allowed : (g i k q : ℕ) → IsCell v.layout g i → q ≡ key_place v.layout g i + offset v.layout → IsWord k → v.claim ≡ None → Reaches v.layout (look v.known) g i k → SettledTo v g k
-      → Allows (Kept fits (about v t)) slots id (v, c) q (λ n. either (n == 0) k n) (Claimed fits (step slots q 0 k none) (v, c))
+      → Allows (TableHolds fits (about v t)) slots id (v, c) q (λ n. either (n == 0) k n) (Claimed fits (step slots q 0 k none) (v, c))
   claim_allowed g i k q a place word free walk settled =
-      subst (λ (x : ℕ). Allows (Kept fits (about v t)) slots id (v, c) x (λ n. either (n == 0) k n) (Claimed fits (step slots x 0 k none) (v, c))) (sym place) (claim_at g i k a word free walk settled)
+      subst (λ (x : ℕ). Allows (TableHolds fits (about v t)) slots id (v, c) x (λ n. either (n == 0) k n) (Claimed fits (step slots x 0 k none) (v, c))) (sym place) (claim_at g i k a word free walk settled)
 
   publish_at : (g i k x : ℕ) → IsCell v.layout g i → IsWord k → IsWord x → look v.known (key_place v.layout g i) ≡ k → MayPublish fits g k x v
-      → Allows (Kept fits (about v t)) slots id (v, c) (value_place v.layout g i + offset v.layout) (λ n. either (n == 0) x n) (Published fits (step slots (value_place v.layout g i + offset v.layout) 0 x none) (v, c))
+      → Allows (TableHolds fits (about v t)) slots id (v, c) (value_place v.layout g i + offset v.layout) (λ n. either (n == 0) x n) (Published fits (step slots (value_place v.layout g i + offset v.layout) 0 x none) (v, c))
   publish_at g i k x a word value key may s kept homes at small =
       let l : Layout = v.layout in
       let p : ℕ = value_place l g i in
       let q : ℕ = p + offset l in
       let n : ℕ = slice_index s.words q in
       let C : ℕ → ℕ = cells_in l s.words in
-      let so = sound_now fits t id v told.live s kept at in
-      let here = pass_now fits t id v told.live s kept at in
+      let so = sound_now fits t id v facts.live s kept at in
+      let here = pass_now fits t id v facts.live s kept at in
       let low : q < length s.words = subst (λ (y : ℕ). q < y) (sym kept.size) (value_within l g i a) in
       let key_there : C (key_place l g i) ≡ k = keeps_value (look v.known) C here.knows (key_place l g i) k word.0 key in
       let mine = here.front in
@@ -153,10 +159,10 @@ module _ (fits : List ℕ → ℕ → ℕ → Type 0) (t : Tag) (slots id : ℕ)
       (λ (p : (h : ℕ) × IsPublished l (look v.known) h k x). absurd (seen_before p.0 p.1 zero_there))
       (λ (p : fits v.tag k x × ClosedTo v g k). subst (λ (y : List ℕ). fits y k x) here.tag p.0)
       may in
-      let is_step : IsStep l (fits t.numbers) (publishes v.number g i k x) (state_of l s.words kept.log) (state_of l ws log) = (a, word, value, key_there, wr, inr (lacks, fit_now, refl)) in
+      let is_step : IsStep l (fits t.numbers) (publishes v.number g i k x) (state_of l s.words kept.log) (state_of l ws log) = record { cell = a; key = word; value = value; stands = key_there; word = wr; adds = inr (lacks, fit_now, refl) } in
       let lawful = and_then kept.events (state_of l s.words kept.log) (publishes v.number g i k x) (state_of l ws log) kept.lawful is_step in
       let w : View = places l v log g i x e in
-      let turn = places_turn l t.numbers (state_of l s.words kept.log) id v told.live here (state_of l ws log) g i k x a value.0 told.alone.1 wr refl in
+      let turn = places_turn l t.numbers (state_of l s.words kept.log) id v facts.live here (state_of l ws log) g i k x a value.0 facts.alone.1 wr refl in
       let size : length ws ≡ word_count l = length-set s.words q x ∙ kept.size in
       let D : ℕ → ℕ = cells_in l ws in
       let knows : Keeps (look v.known) D = keeps_trans (look v.known) C D here.knows (keeps_at p C D wr.was wr.only) in
@@ -173,16 +179,19 @@ module _ (fits : List ℕ → ℕ → ℕ → Type 0) (t : Tag) (slots id : ℕ)
           seen = λ y h. seen_more v.known D p x y wr.is knows h;
           count_seen = omega arith;
         };
-        told = tell_turn fits t id v told.live s kept at ws log (publishes v.number g i k x ∷ kept.events) w lawful size turn refl told.alone.0 told.alone.1;
+        facts = turn_facts fits t id v facts.live s kept at ws log (publishes v.number g i k x ∷ kept.events) w lawful size turn refl facts.alone.0 facts.alone.1;
         counted = refl;
+        same_count = refl;
         claim = refl;
         unclosed = λ last. omega arith;
-        won = λ z. record {
+        won = λ z fit closed. record {
           newest = record { before = kept.log; front = refl; old = record { rest = mine.rest; joins = mine.joins }; lacks = lacks };
-          own = by_append v.numbers kept.log (e ∷ []) ∙ ((λ y. own_stays v kept.log mine y ++ by_any v.numbers (e ∷ [])) ∙ ap (λ (y : List Entry). own v ++ y) (by_hit v.numbers e [] told.own));
+          own = by_append v.numbers kept.log (e ∷ []) ∙ ((λ y. own_stays v kept.log mine y ++ by_any v.numbers (e ∷ [])) ∙ ap (λ (y : List Entry). own v ++ y) (by_hit v.numbers e [] facts.own));
           uncounted = refl;
-          word = look_hit v.known p x p refl;
         };
+        kept = λ z h q. absurd (seen_before h q zero_there);
+        set = λ z. look_hit v.known p x p refl;
+        event = λ z. made fits t id v facts.live s kept at (publishes v.number g i k x) ws log w is_step turn;
         lost = λ nz. absurd (nz zero_there);
         present = λ y. let pos = y.0 in absurd (omega arith);
         both = λ h p fit closed. seen_before h p;
@@ -190,20 +199,24 @@ module _ (fits : List ℕ → ℕ → ℕ → Type 0) (t : Tag) (slots id : ℕ)
         w,
         keeps,
         tt,
-        keep_turn fits t id v told.live s kept at ws log (publishes v.number g i k x ∷ kept.events) w lawful size turn,
+        keep_turn fits t id v facts.live s kept at ws log (publishes v.number g i k x ∷ kept.events) w lawful size turn,
         record { slots = refl; tried = spread w tried },
       ))
       (λ nonzero.
       let w : View = reads l v kept.log g i n in
-      let turn = reads_turn l t.numbers (state_of l s.words kept.log) id v told.live here g i n a refl in
-      let looks = saw fits t id v told.live s kept at p n refl w refl refl (refl, refl, refl, refl, refl, refl, refl, refl) in
+      let turn = reads_turn l t.numbers (state_of l s.words kept.log) id v facts.live here g i n a refl in
+      let looks = saw fits t id v facts.live s kept at p n refl w refl refl (refl, refl, refl, refl, refl, refl, refl, refl) in
       let tried : ValueTried fits g i k x n v w = record {
         steps = looks.steps;
-        told = tell_load fits t id v told.live s kept at w turn refl told.alone.0 told.alone.1;
+        facts = load_facts fits t id v facts.live s kept at w turn refl facts.alone.0 facts.alone.1;
         counted = refl;
+        same_count = refl;
         claim = ap (λ (b : Bool). if b then v.claim else drop_claim v.claim g i) (ne_eqb n 0 nonzero);
         unclosed = λ last. subst (λ (y : ℕ). y < greatest) (ap (λ (y : ℕ). C (value_place l y i)) (sym last)) (so.cells.last_open i (subst (λ (y : ℕ). i < cells_of y) last a.1)).1;
-        won = λ z. absurd (nonzero z);
+        won = λ z fit closed. absurd (nonzero z);
+        kept = λ z h q. absurd (nonzero z);
+        set = λ z. absurd (nonzero z);
+        event = λ z. absurd (nonzero z);
         lost = λ nz. record { looks = looks; uncounted = refl; word = look_hit v.known p n p refl };
         present = λ y. subst (λ (z : ℕ). value_in kept.log z ≡ Some n) key_there (so.history.kept g i a (subst IsWord (sym key_there) word) y);
         both = λ h p fit closed. seen_before h p;
@@ -211,50 +224,50 @@ module _ (fits : List ℕ → ℕ → ℕ → Type 0) (t : Tag) (slots id : ℕ)
         w,
         keeps,
         tt,
-        keep_load fits t id v told.live s kept at q w turn,
+        keep_load fits t id v facts.live s kept at q w turn,
         record { slots = refl; tried = spread w tried },
       ))
 
   pub publish_allowed : (g i k x q : ℕ) → IsCell v.layout g i → q ≡ value_place v.layout g i + offset v.layout → IsWord k → IsWord x → look v.known (key_place v.layout g i) ≡ k → MayPublish fits g k x v
-      → Allows (Kept fits (about v t)) slots id (v, c) q (λ n. either (n == 0) x n) (Published fits (step slots q 0 x none) (v, c))
+      → Allows (TableHolds fits (about v t)) slots id (v, c) q (λ n. either (n == 0) x n) (Published fits (step slots q 0 x none) (v, c))
   publish_allowed g i k x q a place word value key may =
-      subst (λ (y : ℕ). Allows (Kept fits (about v t)) slots id (v, c) y (λ n. either (n == 0) x n) (Published fits (step slots y 0 x none) (v, c))) (sym place) (publish_at g i k x a word value key may)
+      subst (λ (y : ℕ). Allows (TableHolds fits (about v t)) slots id (v, c) y (λ n. either (n == 0) x n) (Published fits (step slots y 0 x none) (v, c))) (sym place) (publish_at g i k x a word value key may)
 
   -- the count after an addition of 1
-  pub count_allowed : 0 < length v.uncounted → Allows (Kept fits (about v t)) slots id (v, c) 1 (λ n. (n + 1) % 2 ^ 64) (Counted fits (step slots 1 1 0 none) (v, c))
+  pub count_allowed : 0 < length v.uncounted → Allows (TableHolds fits (about v t)) slots id (v, c) COUNT_WORD (λ n. (n + 1) % 2 ^ 64) (Counted fits (step slots COUNT_WORD 1 0 none) (v, c))
   count_allowed some_left s kept homes at small =
       let l : Layout = v.layout in
-      let n : ℕ = slice_index s.words 1 in
-      let so = sound_now fits t id v told.live s kept at in
-      let here = pass_now fits t id v told.live s kept at in
+      let n : ℕ = slice_index s.words COUNT_WORD in
+      let so = sound_now fits t id v facts.live s kept at in
+      let here = pass_now fits t id v facts.live s kept at in
       let few : n ≤ length kept.log = count_le l t.numbers (state_of l s.words kept.log) s.views kept.together.count in
       let bound : length kept.log ≤ length s.words = log_small l (fits t.numbers) s.words kept.log so.history in
       let words = words_small l in
-      let most : n ≤ 16777218 = let a : ℕ = length kept.log in let b : ℕ = length s.words in let d : ℕ = word_count l in let few' : n ≤ a = few in let bound' : a ≤ b = bound in let e : b ≡ d = kept.size in let f : d ≤ 16777218 = words in let goal : n ≤ 16777218 = omega arith in goal in
+      let most : n ≤ most_words = let a : ℕ = length kept.log in let b : ℕ = length s.words in let d : ℕ = word_count l in let few' : n ≤ a = few in let bound' : a ≤ b = bound in let e : b ≡ d = kept.size in let f : d ≤ most_words = words in let goal : n ≤ most_words = omega arith in goal in
       let fit : n + 1 < 18446744073709551616 = omega arith in
       let is : (n + 1) % 18446744073709551616 ≡ n + 1 = mod-eq_of_lt fit in
-      let low : 1 < length s.words = subst (λ (x : ℕ). 1 < x) (sym kept.size) (words_pos l) in
-      let ws : List ℕ = set s.words 1 (n + 1) in
-      let raised : slice_index ws 1 ≡ n + 1 = get_or-set_same s.words 1 (n + 1) 0 low in
-      let first : slice_index ws 0 ≡ slice_index s.words 0 = get_or-set_other s.words 1 0 (n + 1) 0 (λ e. omega arith) in
-      let current : lowest l + slice_index ws 0 ≡ lowest l + slice_index s.words 0 = ap (λ (x : ℕ). lowest l + x) first in
+      let low : COUNT_WORD < length s.words = subst (λ (x : ℕ). COUNT_WORD < x) (sym kept.size) (has_count l) in
+      let ws : List ℕ = set s.words COUNT_WORD (n + 1) in
+      let raised : count_in ws ≡ n + 1 = get_or-set_same s.words COUNT_WORD (n + 1) 0 low in
+      let first : slice_index ws CURRENT_WORD ≡ slice_index s.words CURRENT_WORD = get_or-set_other s.words COUNT_WORD CURRENT_WORD (n + 1) 0 (λ e. omega arith) in
+      let current : current_in l ws ≡ current_in l s.words = ap (λ (x : ℕ). lowest l + x) first in
       let cells = count_cells l s.words (n + 1) in
-      let is_step : IsStep l (fits t.numbers) counts (state_of l s.words kept.log) (state_of l ws kept.log) = (record { cells = cells; history = refl }, raised, current, (λ q. refl)) in
+      let is_step : IsStep l (fits t.numbers) counts (state_of l s.words kept.log) (state_of l ws kept.log) = record { rests = record { cells = cells; history = refl }; count = raised; current = current; takes = λ q. refl } in
       let lawful = and_then kept.events (state_of l s.words kept.log) counts (state_of l ws kept.log) kept.lawful is_step in
-      let w : View = tallies v kept.log (slice_index ws 1) in
-      let turn = tallies_turn l t.numbers (state_of l s.words kept.log) id v told.live here (state_of l ws kept.log) cells refl raised current some_left in
-      let size : length ws ≡ word_count l = length-set s.words 1 (n + 1) ∙ kept.size in
-      let knows = tell_turn fits t id v told.live s kept at ws kept.log (counts ∷ kept.events) w lawful size turn refl told.alone.0 told.alone.1 in
-      let after = keep_turn fits t id v told.live s kept at ws kept.log (counts ∷ kept.events) w lawful size turn in
+      let w : View = tallies v kept.log (count_in ws) in
+      let turn = tallies_turn l t.numbers (state_of l s.words kept.log) id v facts.live here (state_of l ws kept.log) cells refl raised current some_left in
+      let size : length ws ≡ word_count l = length-set s.words COUNT_WORD (n + 1) ∙ kept.size in
+      let knows = turn_facts fits t id v facts.live s kept at ws kept.log (counts ∷ kept.events) w lawful size turn refl facts.alone.0 facts.alone.1 in
+      let after = keep_turn fits t id v facts.live s kept at ws kept.log (counts ∷ kept.events) w lawful size turn in
       let together = turns l t.numbers (state_of l s.words kept.log) (state_of l ws kept.log) s.views id v w at kept.together turn in
       let mine = here.front in
       let share = total_le (λ u. u.counted) (set s.views id w) id w (set_here s.views id w (there_below s.views id v at)) in
-      let sum : total (λ u. u.counted) (set s.views id w) ≡ slice_index ws 1 = together.count.counted in
-      let many : slice_index ws 1 ≤ length kept.log = count_le l t.numbers (state_of l ws kept.log) (set s.views id w) together.count in (
+      let sum : total (λ u. u.counted) (set s.views id w) ≡ count_in ws = together.count.counted in
+      let many : count_in ws ≤ length kept.log = count_le l t.numbers (state_of l ws kept.log) (set s.views id w) together.count in (
         w,
         keeps,
         tt,
-        subst (λ (y : ℕ). Kept fits (about v t) record { words = set s.words 1 y; homes = s.homes; views = set s.views id w }) (sym is) after,
+        subst (λ (y : ℕ). TableHolds fits (about v t) record { words = set s.words COUNT_WORD y; homes = s.homes; views = set s.views id w }) (sym is) after,
         record {
           slots = refl;
           raised = record {
@@ -274,7 +287,7 @@ module _ (fits : List ℕ → ℕ → ℕ → Type 0) (t : Tag) (slots id : ℕ)
               mine = mine;
               own = own_stays v kept.log mine;
             };
-            told = knows;
+            facts = knows;
             claim = refl;
             uncounted = refl;
             counted = refl;
@@ -287,18 +300,19 @@ module _ (fits : List ℕ → ℕ → ℕ → Type 0) (t : Tag) (slots id : ℕ)
                 let d : ℕ = length (rest_of v.uncounted) in
                 let tally' : a ≡ (b + 1) + d = tally in
                 let e : ℕ = total (λ u. u.counted) (set s.views id w) in
-                let r : ℕ = slice_index ws 1 in
+                let r : ℕ = count_in ws in
                 let sum' : e ≡ r = sum in
                 let r_is : r ≡ n + 1 = raised in
                 let share' : b + 1 ≤ e = share in
                 let goal : a ≤ (n + 1) + d = omega arith in goal;
             high = subst (λ (x : ℕ). x ≤ length kept.log) raised many;
+            event = made fits t id v facts.live s kept at counts ws kept.log w is_step turn;
           };
         },
       )
 
 -- the second step of a join, whose view need not be settled yet
-pub settle_allowed : (fits : List ℕ → ℕ → ℕ → Type 0) (t : Tag) (slots id : ℕ) (v : View) (c : List (ℕ × Unit {0})) → v.live ≡ true → Allows (Kept fits (about v t)) slots id (v, c) 0 (λ n. n) (Settled fits (step slots 0 0 0 none) (v, c))
+pub settle_allowed : (fits : List ℕ → ℕ → ℕ → Type 0) (t : Tag) (slots id : ℕ) (v : View) (c : List (ℕ × Unit {0})) → v.live ≡ true → Allows (TableHolds fits (about v t)) slots id (v, c) CURRENT_WORD (λ n. n) (Settled fits (step slots CURRENT_WORD 0 0 none) (v, c))
 settle_allowed fits t slots id v c live s kept homes at small =
     let here = pass_now fits t id v live s kept at in
     let w : View = settles v kept.log in
@@ -306,11 +320,11 @@ settle_allowed fits t slots id v c live s kept homes at small =
       w,
       keeps,
       tt,
-      keep_load fits t id v live s kept at 0 w turn,
+      keep_load fits t id v live s kept at CURRENT_WORD w turn,
       record {
         slots = refl;
         settles = record {
-          told = tell_load fits t id v live s kept at w turn refl refl refl;
+          facts = load_facts fits t id v live s kept at w turn refl refl refl;
           layout = refl;
           tag = refl;
           number = refl;

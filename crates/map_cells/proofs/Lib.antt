@@ -1,5 +1,6 @@
 pub mod WordSteps
 pub mod Allowed
+pub mod StepFacts
 pub mod Exchanges
 pub mod Openings
 pub mod CallFacts

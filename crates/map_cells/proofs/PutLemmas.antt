@@ -1,101 +1,204 @@
 -- What one cell makes of a pair.
-use Rattle.std.proofs.Common.{◌≡◌, ◌≢◌, ℕ, ◌<◌, List, [], ◌∷◌, ◌++◌, None, refl, sym, ap, subst, ◌∙◌, inl, inr, arith}
+use Rattle.std.proofs.Common.{◌≡◌, ◌≢◌, ◌⊎◌, ℕ, ◌+◌, ◌<◌, List, [], ◌∷◌, ◌++◌, Bool, true, Option, Some, None, if◌then◌else◌, refl, sym, ap, subst, ◌∙◌, inl, inr, ⊎_elim, ne_eqb, arith}
+use Rattle.map_core.specs.declared.cell.Cell.{Cell}
 use Rattle.map_core.specs.declared.entry.Entry.{Entry}
 use Rattle.map_core.specs.declared.layout.Layout.{Layout}
 use Rattle.map_core.specs.declared.view.View.{View}
-use Rattle.map_core.specs.Places.{key_place, value_place, IsCell}
+use Rattle.map_core.specs.History.{value_in, is_in}
+use Rattle.map_core.specs.Places.{key_place, value_place, Within, IsCell}
 use Rattle.map_core.specs.Machine.{IsWord, IsPublished}
 use Rattle.map_core.specs.Events.{entry}
-use Rattle.map_core.specs.Passes.{look}
+use Rattle.map_core.specs.Passes.{look, cell, drop_claim, PassFacts}
+use Rattle.map_core.proofs.PlaceLemmas.{one_generation}
+use Rattle.map_core.proofs.WordLemmas.{published_on}
 use Rattle.map_core.proofs.CallLemmas.{starts_trans}
 use Rattle.map_core.proofs.TurnLemmas.{drop_own}
-use Rattle.map_cells.specs.Steps.{Steps, KeySeen, KeyTried, ValueTried, IsNewest}
-use Rattle.map_cells.specs.Walks.{Walks, Takes}
-use Rattle.map_cells.specs.Puts.{IsSeenFrom, PutsNew, PutsFound, PutsOther}
-use Rattle.map_cells.proofs.WalkLemmas.{steps_then, looks_then, walks_then}
+use Rattle.map_cells.specs.Seen.{CellsView, PassView, IsOf}
+use Rattle.map_cells.specs.Steps.{ClosedTo, Steps, Looks, KeySeen, KeyTried, ValueSeen, ValueTried, IsNewest}
+use Rattle.map_cells.specs.Walks.{ClaimsAtMost, Takes}
+use Rattle.map_cells.specs.Puts.{HoldsKey, HoldsOther, IsSeenFrom, MayPut, PutsNew, PutsFound, PutsAt}
+use Rattle.map_cells.specs.declared.walks.Tried.{Tried}
+use Rattle.map_cells.specs.declared.walks.Tried.TheVariants as tried
+use Rattle.map_cells.proofs.WalkLemmas.{steps_then, looks_then, current_last}
+
+-- what was seen published is still
+pub published_more : (v w : View) (h k x : ℕ) → Steps v w → IsPublished v.layout (look v.known) h k x → IsPublished w.layout (look w.known) h k x
+published_more v w h k x s p = subst (λ (l : Layout). IsPublished l (look w.known) h k x) (sym s.layout) (published_on v.layout (look v.known) (look w.known) s.seen h k x p)
+
+-- a pair that is seen published is in the front
+pub published_value : (fits : List ℕ → ℕ → ℕ → Type 0) (w : View) (h k x : ℕ) → PassFacts fits w → IsPublished w.layout (look w.known) h k x → value_in w.front k ≡ Some x
+published_value fits w h k x facts p =
+    subst (λ (y : ℕ × ℕ). value_in w.front y.0 ≡ Some y.1) (λ t. (p.key_is t, p.value_is t))
+    (facts.seen h p.index p.cell (subst IsWord (sym p.key_is) p.key) (subst IsWord (sym p.value_is) p.value))
+
+-- in a table of one generation no pair is carried to a higher one
+pub may_put : (fits : List ℕ → ℕ → ℕ → Type 0) (c : CellsView) (p : PassView) (g k x : ℕ) → IsOf c p → PassFacts fits p.knows → Within c.layout g → MayPut fits g k x p.knows → fits c.tag k x × (is_in g p.knows.currents ≡ true)
+may_put fits c p g k x of facts within =
+    let v : View = p.knows in
+    ⊎_elim
+    (λ (e : fits v.tag k x × (is_in g v.currents ≡ true)). (subst (λ (t : List ℕ). fits t k x) of.tag e.0, e.1))
+    (λ (e : (h : ℕ) × (h + 1 ≡ g) × (is_in h v.currents ≡ true) × IsPublished v.layout (look v.known) h k x).
+    let low = current_last fits v e.0 facts e.2 in
+    let high = one_generation v.layout g (subst (λ (l : Layout). Within l g) (sym of.layout) within) in
+    let next = e.1 in absurd (omega arith))
 
 module _ (fits : List ℕ → ℕ → ℕ → Type 0) where
   -- an empty cell was claimed
   pub takes_won : (g i k : ℕ) (v u w : View) → KeySeen fits g i 0 v u → KeyTried fits g i k 0 u w → Takes fits g i v w
-  takes_won g i k v u w a b = record { looks = looks_then v u w a.looks b.looks; told = b.told; claim = inr (b.won refl).0; uncounted = b.uncounted ∙ a.uncounted; counted = b.counted ∙ a.counted }
+  takes_won g i k v u w a b = record { looks = looks_then v u w a.looks b.looks; facts = b.facts; claim = inr (b.won refl).0; uncounted = b.uncounted ∙ a.uncounted; counted = b.counted ∙ a.counted }
 
   -- another pass was first
   pub takes_lost : (g i k n : ℕ) (v u w : View) → v.claim ≡ None → 0 < n → KeySeen fits g i 0 v u → KeyTried fits g i k n u w → Takes fits g i v w
   takes_lost g i k n v u w free pos a b =
-      record { looks = looks_then v u w a.looks b.looks; told = b.told; claim = inl ((b.lost (λ e. omega arith)).0 ∙ (a.claim ∙ free)); uncounted = b.uncounted ∙ a.uncounted; counted = b.counted ∙ a.counted }
+      record { looks = looks_then v u w a.looks b.looks; facts = b.facts; claim = inl ((b.lost (λ e. omega arith)).0 ∙ (a.claim ∙ free)); uncounted = b.uncounted ∙ a.uncounted; counted = b.counted ∙ a.counted }
 
-  module _ (g i k : ℕ) (v u w : View) (a : Takes fits g i v u) (here : IsCell v.layout g i) (word : IsWord k) (key : look u.known (key_place v.layout g i) ≡ k) where
+  -- a key stood in the cell
+  pub takes_seen : (g i n : ℕ) (v u : View) → v.claim ≡ None → KeySeen fits g i n v u → Takes fits g i v u
+  takes_seen g i n v u free a = record { looks = a.looks; facts = a.facts; claim = inl (a.claim ∙ free); uncounted = a.uncounted; counted = a.counted }
+
+  -- and its value was unset
+  pub takes_unset : (g i : ℕ) (v u w : View) → Takes fits g i v u → ValueSeen fits g i 0 u w → Takes fits g i v w
+  takes_unset g i v u w a b =
+      record {
+        looks = looks_then v u w a.looks b.looks;
+        facts = b.facts;
+        claim = subst (λ (o : Option Cell). (o ≡ None) ⊎ (o ≡ Some (cell g i))) (sym b.claim) a.claim;
+        uncounted = b.uncounted ∙ a.uncounted;
+        counted = b.counted ∙ a.counted;
+      }
+
+  -- a claim of the cell ends where its value was seen
+  pub value_frees : (g i n : ℕ) (u w : View) → ClaimsAtMost g i u → 0 < n → ValueSeen fits g i n u w → w.claim ≡ None
+  value_frees g i n u w claim pos b = b.claim ∙ (ap (λ (t : Bool). if t then u.claim else drop_claim u.claim g i) (ne_eqb n 0 (λ e. omega arith)) ∙ drop_own u.claim g i claim)
+
+  -- the cell's key, by the pass's new sizes
+  pub holds_key : (g i k n : ℕ) (u w : View) → Steps u w → look w.known (key_place u.layout g i) ≡ n → n ≡ k → HoldsKey g i k w
+  holds_key g i k n u w s key is = ap (λ (l : Layout). look w.known (key_place l g i)) s.layout ∙ (key ∙ is)
+
+  pub holds_other : (g i k n : ℕ) (u w : View) → Steps u w → look w.known (key_place u.layout g i) ≡ n → IsWord n → n ≢ k → HoldsOther g i k w
+  holds_other g i k n u w s key word ne =
+      let there : look w.known (key_place w.layout g i) ≡ n = ap (λ (l : Layout). look w.known (key_place l g i)) s.layout ∙ key in
+      record { key = subst IsWord (sym there) word; other = λ e. ne (sym there ∙ e) }
+
+  pub key_stays : (g i k : ℕ) (u w : View) → IsWord k → Steps u w → HoldsKey g i k u → HoldsKey g i k w
+  key_stays g i k u w word s key =
+      holds_key g i k (look u.known (key_place u.layout g i)) u w s (s.seen (key_place u.layout g i) (subst (λ (n : ℕ). 0 < n) (sym key) word.0)) key
+
+  module _ (g i k : ℕ) (u w : View) (here : IsCell u.layout g i) (word : IsWord k) (key : HoldsKey g i k u) where
     -- the pair is seen published in this cell
-    seen_here : (x : ℕ) → IsWord x → Steps u w → look w.known (value_place u.layout g i) ≡ x → IsSeenFrom g k x w
+    pub seen_here : (x : ℕ) → IsWord x → Steps u w → look w.known (value_place u.layout g i) ≡ x → IsSeenFrom g k x w
     seen_here x value s there =
-        let layout : v.layout ≡ w.layout = sym (s.layout ∙ a.looks.steps.layout) in
         record {
           generation = g;
           from = omega arith;
-          published = subst (λ (l : Layout). IsPublished l (look w.known) g k x) layout record {
+          published = subst (λ (l : Layout). IsPublished l (look w.known) g k x) (sym s.layout) record {
             index = i;
             cell = here;
-            key_is = s.seen (key_place v.layout g i) (subst (λ (n : ℕ). 0 < n) (sym key) word.0) ∙ key;
-            value_is = ap (λ (l : Layout). look w.known (value_place l g i)) (sym a.looks.steps.layout) ∙ there;
+            key_is = s.seen (key_place u.layout g i) (subst (λ (n : ℕ). 0 < n) (sym key) word.0) ∙ key;
+            value_is = there;
             key = word;
             value = value;
           };
         }
 
-    pub puts_new : (x : ℕ) → IsWord x → ValueTried fits g i k x 0 u w → PutsNew fits g k x v w
-    puts_new x value b =
-        let p = b.won refl in
-        let e : entry u.number k x ≡ entry v.number k x = ap (λ (n : ℕ). entry n k x) a.looks.steps.number in
+    pub puts_new : (x : ℕ) → IsWord x → ClaimsAtMost g i u → fits u.tag k x → ClosedTo u g k → ValueTried fits g i k x 0 u w → PutsNew fits g k x u w
+    puts_new x value claim fit closed b =
         record {
-          steps = steps_then v u w a.looks.steps b.steps;
-          told = b.told;
-          claim = b.claim ∙ drop_own u.claim g i a.claim;
-          counted = b.counted ∙ a.counted;
-          uncounted = p.uncounted ∙ (λ t. a.uncounted t ++ e t ∷ []);
-          own = p.own ∙ (λ t. a.looks.own t ++ e t ∷ []);
-          newest = subst (λ (y : Entry). IsNewest fits y v w) e record { before = p.newest.before; front = p.newest.front; old = starts_trans v.front u.front p.newest.before a.looks.steps.front p.newest.old; lacks = p.newest.lacks };
-          seen = seen_here x value b.steps p.word;
+          steps = b.steps;
+          facts = b.facts;
+          claim = b.claim ∙ drop_own u.claim g i claim;
+          counted = b.counted;
+          fresh = λ f c. b.won refl fit closed;
+          kept = λ h p. b.kept refl h p;
+          seen = seen_here x value b.steps (b.set refl);
         }
 
-    pub puts_found : (x n : ℕ) → IsWord n → ValueTried fits g i k x n u w → PutsFound fits g k n v w
-    puts_found x n found b =
+    pub puts_found : (x n : ℕ) → ClaimsAtMost g i u → IsWord n → ValueTried fits g i k x n u w → PutsFound fits g k x n u w
+    puts_found x n claim found b =
         let pos = found.0 in
         let p = b.lost (λ e. omega arith) in
         record {
           walks = record {
-            looks = looks_then v u w a.looks p.looks;
-            told = b.told;
-            claim = λ free. b.claim ∙ drop_own u.claim g i a.claim;
-            uncounted = p.uncounted ∙ a.uncounted;
-            counted = b.counted ∙ a.counted;
+            looks = p.looks;
+            facts = b.facts;
+            claim = λ free. b.claim ∙ drop_own u.claim g i claim;
+            uncounted = p.uncounted;
+            counted = b.counted;
           };
           value = b.present found;
+          same = λ h q. let e : Some n ≡ Some x = sym (b.present found) ∙ published_value fits w h k x b.facts (published_more u w h k x b.steps q) in cc;
           seen = seen_here n found b.steps p.word;
         }
 
-  -- a cell with another key
-  pub puts_other : (g i k n : ℕ) (v u : View) → Takes fits g i v u → u.claim ≡ None → look u.known (key_place v.layout g i) ≡ n → IsWord n → n ≢ k → PutsOther fits g i k v u
-  puts_other g i k n v u a free key word ne =
-      let there : look u.known (key_place u.layout g i) ≡ n = ap (λ (l : Layout). look u.known (key_place l g i)) a.looks.steps.layout ∙ key in
-      record {
-        walks = record { looks = a.looks; told = a.told; claim = λ e. free; uncounted = a.uncounted; counted = a.counted };
-        holds = record { key = subst IsWord (sym there) word; other = λ e. ne (sym there ∙ e) };
-      }
+    -- the value was there already
+    pub puts_seen : (x n : ℕ) → ClaimsAtMost g i u → IsWord n → ValueSeen fits g i n u w → PutsFound fits g k x n u w
+    puts_seen x n claim found b =
+        let value : value_in w.front k ≡ Some n = b.present k word found key in
+        record {
+          walks = record {
+            looks = b.looks;
+            facts = b.facts;
+            claim = λ free. value_frees g i n u w claim found.0 b;
+            uncounted = b.uncounted;
+            counted = b.counted;
+          };
+          value = value;
+          same = λ h q. let e : Some n ≡ Some x = sym value ∙ published_value fits w h k x b.facts (published_more u w h k x b.looks.steps q) in cc;
+          seen = seen_here n found b.looks.steps b.word;
+        }
 
-  module _ (g k x : ℕ) (v u w : View) (a : Walks fits v u) where
+  -- what was put after looks that left the uncounted entries
+  module _ (g k x : ℕ) (v u w : View) (a : Looks v u) (uncounted : u.uncounted ≡ v.uncounted) (counted : u.counted ≡ v.counted) where
+    entry_same : entry u.number k x ≡ entry v.number k x
+    entry_same = ap (λ (n : ℕ). entry n k x) a.steps.number
+
     pub new_after : PutsNew fits g k x u w → PutsNew fits g k x v w
     new_after b =
-        let e : entry u.number k x ≡ entry v.number k x = ap (λ (n : ℕ). entry n k x) a.looks.steps.number in
         record {
-          steps = steps_then v u w a.looks.steps b.steps;
-          told = b.told;
+          steps = steps_then v u w a.steps b.steps;
+          facts = b.facts;
           claim = b.claim;
-          counted = b.counted ∙ a.counted;
-          uncounted = b.uncounted ∙ (λ t. a.uncounted t ++ e t ∷ []);
-          own = b.own ∙ (λ t. a.looks.own t ++ e t ∷ []);
-          newest = subst (λ (y : Entry). IsNewest fits y v w) e record { before = b.newest.before; front = b.newest.front; old = starts_trans v.front u.front b.newest.before a.looks.steps.front b.newest.old; lacks = b.newest.lacks };
+          counted = b.counted ∙ counted;
+          fresh = λ f c.
+              let p = b.fresh (subst (λ (t : List ℕ). fits t k x) (sym a.steps.tag) f) (ap (is_in g) a.steps.currents ∙ c) in
+              record {
+                newest = subst (λ (y : Entry). IsNewest fits y v w) entry_same record { before = p.newest.before; front = p.newest.front; old = starts_trans v.front u.front p.newest.before a.steps.front p.newest.old; lacks = p.newest.lacks };
+                own = p.own ∙ (λ t. a.own t ++ entry_same t ∷ []);
+                uncounted = p.uncounted ∙ (λ t. uncounted t ++ entry_same t ∷ []);
+              };
+          kept = λ h p.
+              let q = b.kept h (published_more v u h k x a.steps p) in
+              record { looks = looks_then v u w a q.looks; uncounted = q.uncounted ∙ uncounted };
           seen = b.seen;
         }
 
-    pub found_after : PutsFound fits g k x u w → PutsFound fits g k x v w
-    found_after b = record { walks = walks_then fits v u w a b.walks; value = b.value; seen = b.seen }
+    pub found_after : (n : ℕ) → PutsFound fits g k x n u w → (v.claim ≡ None → w.claim ≡ None) → PutsFound fits g k x n v w
+    found_after n b claim =
+        record {
+          walks = record {
+            looks = looks_then v u w a b.walks.looks;
+            facts = b.walks.facts;
+            claim = claim;
+            uncounted = b.walks.uncounted ∙ uncounted;
+            counted = b.walks.counted ∙ counted;
+          };
+          value = b.value;
+          same = λ h p. b.same h (published_more v u h k x a.steps p);
+          seen = b.seen;
+        }
+
+  -- the same of all that one cell may make of a pair
+  pub tried_after : (g i k x : ℕ) (v u w : View) (a : Looks v u) → u.uncounted ≡ v.uncounted → u.counted ≡ v.counted → w.claim ≡ None → (r : Tried) → PutsAt fits g i k x u w r → PutsAt fits g i k x v w r
+  tried_after g i k x v u w a uncounted counted free tried.Placed b = new_after g k x v u w a uncounted counted b
+  tried_after g i k x v u w a uncounted counted free (tried.Found y) b = found_after g k x v u w a uncounted counted y b (λ e. free)
+  tried_after g i k x v u w a uncounted counted free tried.Other b =
+      record {
+        walks = record {
+          looks = looks_then v u w a b.walks.looks;
+          facts = b.walks.facts;
+          claim = λ e. free;
+          uncounted = b.walks.uncounted ∙ uncounted;
+          counted = b.walks.counted ∙ counted;
+        };
+        holds = b.holds;
+      }

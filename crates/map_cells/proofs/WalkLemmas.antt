@@ -12,7 +12,7 @@ use Rattle.map_core.specs.Sizes.{cells_of}
 use Rattle.map_core.specs.History.{is_in, by_any, StartsWith, StartsWithOwn}
 use Rattle.map_core.specs.Places.{key_place, home, spot, Within, IsCell}
 use Rattle.map_core.specs.Machine.{IsWord, Passed, Reaches}
-use Rattle.map_core.specs.Passes.{look, drop_claim, Told}
+use Rattle.map_core.specs.Passes.{look, drop_claim, PassFacts}
 use Rattle.map_core.proofs.PlaceLemmas.{one_generation, spot_cell}
 use Rattle.map_core.proofs.WordLemmas.{passed_on, reaches_on}
 use Rattle.map_core.proofs.HistoryLemmas.{by_append}
@@ -72,27 +72,27 @@ looks_same v =
     }
 
 module _ (fits : List ℕ → ℕ → ℕ → Type 0) where
-  pub walks_same : (v : View) → Told fits v → Walks fits v v
-  walks_same v told = record { looks = looks_same v; told = told; claim = λ e. e; uncounted = refl; counted = refl }
+  pub walks_same : (v : View) → PassFacts fits v → Walks fits v v
+  walks_same v facts = record { looks = looks_same v; facts = facts; claim = λ e. e; uncounted = refl; counted = refl }
 
   pub walks_then : (v u w : View) → Walks fits v u → Walks fits u w → Walks fits v w
   walks_then v u w a b =
       record {
         looks = looks_then v u w a.looks b.looks;
-        told = b.told;
+        facts = b.facts;
         claim = λ e. b.claim (a.claim e);
         uncounted = b.uncounted ∙ a.uncounted;
         counted = b.counted ∙ a.counted;
       }
 
   pub key_walks : (g i n : ℕ) (v w : View) → KeySeen fits g i n v w → Walks fits v w
-  key_walks g i n v w s = record { looks = s.looks; told = s.told; claim = λ e. s.claim ∙ e; uncounted = s.uncounted; counted = s.counted }
+  key_walks g i n v w s = record { looks = s.looks; facts = s.facts; claim = λ e. s.claim ∙ e; uncounted = s.uncounted; counted = s.counted }
 
   pub value_walks : (g i n : ℕ) (v w : View) → ValueSeen fits g i n v w → Walks fits v w
   value_walks g i n v w s =
       record {
         looks = s.looks;
-        told = s.told;
+        facts = s.facts;
         claim = λ e. s.claim ∙ (ap (λ (o : Option Cell). if n == 0 then o else drop_claim o g i) e ∙ if_none (n == 0));
         uncounted = s.uncounted;
         counted = s.counted;
@@ -110,8 +110,8 @@ pub passed_more : (v w : View) (g k d : ℕ) → Steps v w → Passed v.layout (
 passed_more v w g k d s p = subst (λ (x : Layout). Passed x (look w.known) g k d) (sym s.layout) (passed_on v.layout (look v.known) (look w.known) s.seen g k d p)
 
 -- for now a generation that was seen current is the last, and nothing lies between
-pub current_last : (fits : List ℕ → ℕ → ℕ → Type 0) (v : View) (g : ℕ) → Told fits v → is_in g v.currents ≡ true → g ≡ v.layout.last
-current_last fits v g told h = one_generation v.layout g (told.currents g h)
+pub current_last : (fits : List ℕ → ℕ → ℕ → Type 0) (v : View) (g : ℕ) → PassFacts fits v → is_in g v.currents ≡ true → g ≡ v.layout.last
+current_last fits v g facts h = one_generation v.layout g (facts.currents g h)
 
 pub closed_here : (v : View) (g k : ℕ) → is_in g v.currents ≡ true → ClosedTo v g k
 closed_here v g k h = record { from = g; current = h; low = omega arith; closed = λ x a b. absurd (omega arith) }
@@ -193,8 +193,8 @@ closed_more v w g k s c pos =
 
 module _ (fits : List ℕ → ℕ → ℕ → Type 0) (g k : ℕ) where
   -- a walk begins
-  pub walk_starts : (i : ℕ) (v : View) → Told fits v → g ≤ 17 → i ≡ home g k → Walked fits g k 0 i v v
-  walk_starts i v told low is = record { walks = walks_same fits v told; steps = omega arith; index = is ∙ spot_first g k low; passed = record { others = λ j h. absurd (omega arith) } }
+  pub walk_starts : (i : ℕ) (v : View) → PassFacts fits v → g ≤ 17 → i ≡ home g k → Walked fits g k 0 i v v
+  walk_starts i v facts low is = record { walks = walks_same fits v facts; steps = omega arith; index = is ∙ spot_first g k low; passed = record { others = λ j h. absurd (omega arith) } }
 
   -- and goes on at the next cell
   pub walk_goes : (d i n : ℕ) (v u w : View) → Walked fits g k d i v u → Walks fits u w → IsWord (look w.known (key_place w.layout g i)) → look w.known (key_place w.layout g i) ≢ k → d < cells_of g → n ≡ spot g k (d + 1) → Walked fits g k (d + 1) n v w
@@ -224,10 +224,9 @@ module _ (fits : List ℕ → ℕ → ℕ → Type 0) (g k : ℕ) where
   pub walk_ends : (d i : ℕ) (v w : View) → Walked fits g k d i v w → IsWord k → is_in g v.currents ≡ true → cells_of g ≤ d
       → (Rattle.map_core.specs.History.value_in w.front k ≡ None) × (w.layout.capacity ≤ length w.front) × Passed w.layout (look w.known) w.layout.last k (cells_of w.layout.last)
   walk_ends d i v w at word current whole =
-      let told = at.walks.told in
+      let facts = at.walks.facts in
       let current' : is_in g w.currents ≡ true = ap (λ (x : List ℕ). is_in g x) at.walks.looks.steps.currents ∙ current in
-      let last = current_last fits w g told current' in
+      let last = current_last fits w g facts current' in
       let e : d ≡ cells_of g = let s = at.steps in omega arith in
       let passed : Passed w.layout (look w.known) w.layout.last k (cells_of w.layout.last) = subst (λ (x : ℕ). Passed w.layout (look w.known) x k (cells_of x)) last (subst (λ (x : ℕ). Passed w.layout (look w.known) g k x) e at.passed) in
-      let ends = told.ends g k word current' (λ h a b. absurd (omega arith)) passed in
-      (ends.0, ends.1, passed)
+      (facts.ends g k word current' (λ h a b. absurd (omega arith)) passed, facts.full k passed, passed)

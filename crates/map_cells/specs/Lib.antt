@@ -1,5 +1,8 @@
 pub mod Words
 pub mod Seen
+pub mod PassFields
+pub mod FollowLaws
+pub mod Whole
 pub mod Steps
 pub mod Passing
 pub mod Rule

@@ -1,19 +1,19 @@
 -- What the two walks answer, and what one cell tells them.
-use Rattle.std.specs.Prelude.{◌≡◌, ◌≢◌, ℕ, ◌≤◌, List, [], ◌∷◌, ◌++◌, length, Some, None}
+use Rattle.std.specs.Prelude.{◌≡◌, ◌≢◌, ◌⊎◌, ℕ, ◌+◌, ◌≤◌, List, length, true, Some, None}
 use Rattle.map_core.specs.declared.view.View.{View}
 use Rattle.map_core.specs.Sizes.{cells_of}
-use Rattle.map_core.specs.History.{value_in}
+use Rattle.map_core.specs.History.{value_in, is_in}
 use Rattle.map_core.specs.Places.{key_place}
 use Rattle.map_core.specs.Machine.{IsWord, Passed, IsPublished}
-use Rattle.map_core.specs.Events.{entry}
-use Rattle.map_core.specs.Calls.{own}
-use Rattle.map_core.specs.Passes.{look, Told}
-use Rattle.map_cells.specs.Steps.{Steps, IsNewest}
+use Rattle.map_core.specs.Passes.{look, PassFacts}
+use Rattle.map_cells.specs.Steps.{Steps, IsPlaced, IsKept}
 use Rattle.map_cells.specs.Walks.{Walks}
 use Rattle.map_cells.specs.declared.walks.Put.{Put}
 use Rattle.map_cells.specs.declared.walks.Put.TheVariants as put
 use Rattle.map_cells.specs.declared.walks.Sought.{Sought}
 use Rattle.map_cells.specs.declared.walks.Sought.TheVariants as sought
+use Rattle.map_cells.specs.declared.walks.Taken.{Taken}
+use Rattle.map_cells.specs.declared.walks.Taken.TheVariants as taken
 use Rattle.map_cells.specs.declared.walks.Tried.{Tried}
 use Rattle.map_cells.specs.declared.walks.Tried.TheVariants as tried
 
@@ -21,6 +21,10 @@ use Rattle.map_cells.specs.declared.walks.Tried.TheVariants as tried
 pub record HoldsOther (g i k : ℕ) (w : View) : Type 0 where
   pub key : IsWord (look w.known (key_place w.layout g i))
   pub other : look w.known (key_place w.layout g i) ≢ k
+
+-- the cell holds this key
+abbrev pub HoldsKey : ℕ → ℕ → ℕ → View → Type 0
+HoldsKey g i k w = look w.known (key_place w.layout g i) ≡ k
 
 -- what a pass that walked learned of a key at a cell
 abbrev pub SeeksAt : ℕ → ℕ → ℕ → View → Sought → Type 0
@@ -35,34 +39,42 @@ pub record IsSeenFrom (g k x : ℕ) (w : View) : Type 0 where
   pub published : IsPublished w.layout (look w.known) generation k x
 
 module _ (fits : List ℕ → ℕ → ℕ → Type 0) where
-  -- a pair was placed: it is the newest entry, and not counted yet
+  -- The generation was seen current, and the pair fits. Or the generation below it was, and the pair is seen
+  -- published there
+  abbrev pub MayPut : ℕ → ℕ → ℕ → View → Type 0
+  MayPut g k x v =
+      (fits v.tag k x × (is_in g v.currents ≡ true))
+      ⊎ ((c : ℕ) × (c + 1 ≡ g) × (is_in c v.currents ≡ true)
+      × IsPublished v.layout (look v.known) c k x)
+
+  -- this call set the value word: of a new entry, not counted yet, or of a pair that was seen published
   pub record PutsNew (g k x : ℕ) (v w : View) : Type 0 where
     pub steps : Steps v w
-    pub told : Told fits w
+    pub facts : PassFacts fits w
     pub claim : w.claim ≡ None
     pub counted : w.counted ≡ v.counted
-    pub uncounted : w.uncounted ≡ v.uncounted ++ entry v.number k x ∷ []
-    pub own : own w ≡ own v ++ entry v.number k x ∷ []
-    pub newest : IsNewest fits (entry v.number k x) v w
+    pub fresh : fits v.tag k x → is_in g v.currents ≡ true → IsPlaced fits k x v w
+    pub kept : (h : ℕ) → IsPublished v.layout (look v.known) h k x → IsKept fits v w
     pub seen : IsSeenFrom g k x w
 
-  -- a value was there
-  pub record PutsFound (g k x : ℕ) (v w : View) : Type 0 where
+  -- the value y was there
+  pub record PutsFound (g k x y : ℕ) (v w : View) : Type 0 where
     pub walks : Walks fits v w
-    pub value : value_in w.front k ≡ Some x
-    pub seen : IsSeenFrom g k x w
+    pub value : value_in w.front k ≡ Some y
+    pub same : (h : ℕ) → IsPublished v.layout (look v.known) h k x → y ≡ x
+    pub seen : IsSeenFrom g k y w
 
   -- no cell was left: each cell of the last generation is seen with another key
-  pub record PutsNone (k : ℕ) (v w : View) : Type 0 where
+  pub record PutsNone (g k : ℕ) (v w : View) : Type 0 where
     pub walks : Walks fits v w
     pub others : Passed w.layout (look w.known) w.layout.last k (cells_of w.layout.last)
-    pub lacks : value_in w.front k ≡ None
+    pub lacks : is_in g v.currents ≡ true → value_in w.front k ≡ None
     pub full : w.layout.capacity ≤ length w.front
 
   abbrev pub IsPut : ℕ → ℕ → ℕ → View → View → Put → Type 0
   IsPut g k x v w put.Placed = PutsNew g k x v w
-  IsPut g k x v w (put.Found y) = PutsFound g k y v w
-  IsPut g k x v w put.Exhausted = PutsNone k v w
+  IsPut g k x v w (put.Found y) = PutsFound g k x y v w
+  IsPut g k x v w put.Exhausted = PutsNone g k v w
 
   -- what one cell made of the pair
   pub record PutsOther (g i k : ℕ) (v w : View) : Type 0 where
@@ -71,5 +83,11 @@ module _ (fits : List ℕ → ℕ → ℕ → Type 0) where
 
   abbrev pub PutsAt : ℕ → ℕ → ℕ → ℕ → View → View → Tried → Type 0
   PutsAt g i k x v w tried.Placed = PutsNew g k x v w
-  PutsAt g i k x v w (tried.Found y) = PutsFound g k y v w
+  PutsAt g i k x v w (tried.Found y) = PutsFound g k x y v w
   PutsAt g i k x v w tried.Other = PutsOther g i k v w
+
+-- what the walk made of the cell's key: it was claimed for k, k stands in it, or another key does
+abbrev pub TakesAt : ℕ → ℕ → ℕ → View → Taken → Type 0
+TakesAt g i k w taken.Claimed = HoldsKey g i k w
+TakesAt g i k w taken.Stands = HoldsKey g i k w
+TakesAt g i k w taken.Other = HoldsOther g i k w × (w.claim ≡ None)

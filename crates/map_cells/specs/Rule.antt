@@ -1,27 +1,21 @@
 -- The rule of a table's words, and what each atomic step tells of it.
-use Rattle.std.specs.Prelude.{◌≡◌, ℕ, ◌+◌, List, length}
+use Rattle.std.specs.Prelude.{◌≡◌, ℕ, ◌+◌, List}
 use Rattle.atomic_table.specs.Table.{State, Me, Step}
-use Rattle.map_core.specs.declared.entry.Entry.{Entry}
 use Rattle.map_core.specs.declared.view.View.{View}
-use Rattle.map_core.specs.Places.{offset, word_count, key_place, value_place, IsCell}
-use Rattle.map_core.specs.Machine.{IsWord, state_of}
-use Rattle.map_core.specs.Events.{Event, Lawful}
-use Rattle.map_core.specs.Passes.{look, Together}
+use Rattle.map_core.specs.Places.{offset, key_place, value_place, IsCell}
+use Rattle.map_core.specs.Machine.{IsWord}
+use Rattle.map_core.specs.Passes.{look}
 use Rattle.map_core.specs.Knowing.{first_view}
 use Rattle.map_cells.specs.declared.about.About.{About}
 use Rattle.map_cells.specs.Steps.{KeySeen, ValueSeen, CountSeen, KeyTried, ValueTried, CountRaised}
 use Rattle.map_cells.specs.Passing.{Settles}
+use Rattle.map_cells.specs.Whole.{WholeTable}
 
 abbrev pub first_of : About → View
 first_of a = first_view a.layout a.tag.numbers
 
--- The words are the state after a lawful list of events, whose history is log, and what the passes know is so
-pub record Kept (fits : List ℕ → ℕ → ℕ → Type 0) (a : About) (s : State (Unit {0}) View) : Type 0 where
-  pub events : List Event
-  pub log : List Entry
-  pub lawful : Lawful a.layout (fits a.tag.numbers) events (state_of a.layout s.words log)
-  pub together : Together a.layout a.tag.numbers (state_of a.layout s.words log) s.views
-  pub size : length s.words ≡ word_count a.layout
+abbrev pub TableHolds : (List ℕ → ℕ → ℕ → Type 0) → About → State (Unit {0}) View → Type 0
+TableHolds fits a s = WholeTable fits a.layout a.tag.numbers s.words s.views
 
 module _ (fits : List ℕ → ℕ → ℕ → Type 0) (st : Step (Unit {0})) (m : Me (Unit {0}) View) (n : ℕ) (m' : Me (Unit {0}) View) where
   pub record KeyLooked : Type 0 where

@@ -5,10 +5,11 @@ use Rattle.map_core.specs.declared.view.View.{View}
 use Rattle.map_core.specs.History.{value_in, is_in, StartsWith, StartsWithOwn}
 use Rattle.map_core.specs.Places.{key_place, value_place}
 use Rattle.map_core.specs.Machine.{greatest, IsWord, Reaches, IsClosed, IsPublished, IsSettled}
-use Rattle.map_core.specs.Events.{entry}
+use Rattle.map_core.specs.Events.{claims, publishes, counts, entry}
 use Rattle.map_core.specs.Calls.{own}
-use Rattle.map_core.specs.Passes.{look, cell, drop_claim, Told}
+use Rattle.map_core.specs.Passes.{look, cell, drop_claim, PassFacts}
 use Rattle.map_core.specs.Knowing.{rest_of}
+use Rattle.map_cells.specs.Whole.{MakesStep}
 
 -- the key is seen closed in each generation from a current one up to below g
 pub record ClosedTo (v : View) (g k : ℕ) : Type 0 where
@@ -47,32 +48,37 @@ module _ (fits : List ℕ → ℕ → ℕ → Type 0) where
   -- a load of the key word of a cell
   pub record KeySeen (g i n : ℕ) (v w : View) : Type 0 where
     pub looks : Looks v w
-    pub told : Told fits w
+    pub facts : PassFacts fits w
     pub claim : w.claim ≡ v.claim
     pub uncounted : w.uncounted ≡ v.uncounted
     pub counted : w.counted ≡ v.counted
+    pub same_count : w.count_seen ≡ v.count_seen
     pub word : look w.known (key_place v.layout g i) ≡ n
     pub unsealed : g ≡ v.layout.last → n < greatest
     -- an empty word at the end of a key's walk: the front lacks the key
-    pub absent : (k : ℕ) → n ≡ 0 → Reaches v.layout (look v.known) g i k → ClosedTo v g k → value_in w.front k ≡ None
+    pub absent : (k : ℕ) → IsWord k → n ≡ 0 → Reaches v.layout (look v.known) g i k → ClosedTo v g k
+        → value_in w.front k ≡ None
 
   -- a load of the value word of a cell
   pub record ValueSeen (g i n : ℕ) (v w : View) : Type 0 where
     pub looks : Looks v w
-    pub told : Told fits w
+    pub facts : PassFacts fits w
     pub claim : w.claim ≡ (if n == 0 then v.claim else drop_claim v.claim g i)
     pub uncounted : w.uncounted ≡ v.uncounted
     pub counted : w.counted ≡ v.counted
+    pub same_count : w.count_seen ≡ v.count_seen
     pub word : look w.known (value_place v.layout g i) ≡ n
     pub unclosed : g ≡ v.layout.last → n < greatest
     -- an unset value at a key that was seen: the front lacks the key
-    pub absent : (k : ℕ) → n ≡ 0 → IsWord k → look v.known (key_place v.layout g i) ≡ k → ClosedTo v g k → value_in w.front k ≡ None
-    pub present : (k : ℕ) → IsWord n → IsWord k → look v.known (key_place v.layout g i) ≡ k → value_in w.front k ≡ Some n
+    pub absent : (k : ℕ) → IsWord k → n ≡ 0 → look v.known (key_place v.layout g i) ≡ k
+        → ClosedTo v g k → value_in w.front k ≡ None
+    pub present : (k : ℕ) → IsWord k → IsWord n → look v.known (key_place v.layout g i) ≡ k
+        → value_in w.front k ≡ Some n
 
   -- a load of the count
   pub record CountSeen (n : ℕ) (v w : View) : Type 0 where
     pub looks : Looks v w
-    pub told : Told fits w
+    pub facts : PassFacts fits w
     pub claim : w.claim ≡ v.claim
     pub uncounted : w.uncounted ≡ v.uncounted
     pub counted : w.counted ≡ v.counted
@@ -82,19 +88,23 @@ module _ (fits : List ℕ → ℕ → ℕ → Type 0) where
     pub low : length (own w) ≤ n + length w.uncounted
     pub high : n ≤ length w.front
 
-  -- a pair may be published in a cell of generation g: it is seen published in some generation, or it fits and its key is seen closed below g
+  -- a pair may be published in a cell of generation g: it is seen published in some generation, or it fits
+  -- and its key is seen closed below g
   abbrev pub MayPublish : ℕ → ℕ → ℕ → View → Type 0
-  MayPublish g k x v = ((h : ℕ) × IsPublished v.layout (look v.known) h k x) ⊎ (fits v.tag k x × ClosedTo v g k)
+  MayPublish g k x v =
+      ((h : ℕ) × IsPublished v.layout (look v.known) h k x) ⊎ (fits v.tag k x × ClosedTo v g k)
 
   -- an exchange of an empty key word for k
   pub record KeyTried (g i k n : ℕ) (v w : View) : Type 0 where
     pub looks : Looks v w
-    pub told : Told fits w
+    pub facts : PassFacts fits w
     pub uncounted : w.uncounted ≡ v.uncounted
     pub counted : w.counted ≡ v.counted
+    pub same_count : w.count_seen ≡ v.count_seen
     pub unsealed : g ≡ v.layout.last → n < greatest
     pub won : n ≡ 0 → (w.claim ≡ Some (cell g i)) × (look w.known (key_place v.layout g i) ≡ k)
     pub lost : n ≢ 0 → (w.claim ≡ v.claim) × (look w.known (key_place v.layout g i) ≡ n)
+    pub event : n ≡ 0 → MakesStep fits (claims g i k) v w
 
   -- the entry is the last of the front, and its key was not there before
   pub record IsNewest (e : Entry) (v w : View) : Type 0 where
@@ -103,12 +113,16 @@ module _ (fits : List ℕ → ℕ → ℕ → Type 0) where
     pub old : StartsWith v.front before
     pub lacks : value_in before e.key ≡ None
 
-  -- an exchange of an unset value word for x that was made
-  pub record IsPlaced (g i k x : ℕ) (v w : View) : Type 0 where
+  -- an exchange of an unset value word for x that was made: the entry is new
+  pub record IsPlaced (k x : ℕ) (v w : View) : Type 0 where
     pub newest : IsNewest (entry v.number k x) v w
     pub own : own w ≡ own v ++ entry v.number k x ∷ []
     pub uncounted : w.uncounted ≡ v.uncounted ++ entry v.number k x ∷ []
-    pub word : look w.known (value_place v.layout g i) ≡ x
+
+  -- or the history had the pair, and is as it was
+  pub record IsKept (v w : View) : Type 0 where
+    pub looks : Looks v w
+    pub uncounted : w.uncounted ≡ v.uncounted
 
   -- and one that was lost
   pub record IsLost (g i n : ℕ) (v w : View) : Type 0 where
@@ -118,20 +132,26 @@ module _ (fits : List ℕ → ℕ → ℕ → Type 0) where
 
   pub record ValueTried (g i k x n : ℕ) (v w : View) : Type 0 where
     pub steps : Steps v w
-    pub told : Told fits w
+    pub facts : PassFacts fits w
     pub counted : w.counted ≡ v.counted
+    pub same_count : w.count_seen ≡ v.count_seen
     pub claim : w.claim ≡ drop_claim v.claim g i
     pub unclosed : g ≡ v.layout.last → n < greatest
-    pub won : n ≡ 0 → IsPlaced g i k x v w
+    -- the exchange was made: of a pair that fits and whose key is closed below g, or of one seen published
+    pub won : n ≡ 0 → fits v.tag k x → ClosedTo v g k → IsPlaced k x v w
+    pub kept : n ≡ 0 → (h : ℕ) → IsPublished v.layout (look v.known) h k x → IsKept v w
+    pub set : n ≡ 0 → look w.known (value_place v.layout g i) ≡ x
+    pub event : n ≡ 0 → MakesStep fits (publishes v.number g i k x) v w
     pub lost : n ≢ 0 → IsLost g i n v w
     pub present : IsWord n → value_in w.front k ≡ Some n
-    -- where the pair was seen published, and might be placed as well, its value word is found set
-    pub both : (h : ℕ) → IsPublished v.layout (look v.known) h k x → fits v.tag k x → ClosedTo v g k → n ≢ 0
+    -- where both hold of the pair, its value word is found set
+    pub both : (h : ℕ) → IsPublished v.layout (look v.known) h k x
+        → fits v.tag k x → ClosedTo v g k → n ≢ 0
 
   -- an addition of 1 to the count, which is n afterwards
   pub record CountRaised (n : ℕ) (v w : View) : Type 0 where
     pub looks : Looks v w
-    pub told : Told fits w
+    pub facts : PassFacts fits w
     pub claim : w.claim ≡ v.claim
     pub uncounted : w.uncounted ≡ rest_of v.uncounted
     pub counted : w.counted ≡ v.counted + 1
@@ -139,3 +159,4 @@ module _ (fits : List ℕ → ℕ → ℕ → Type 0) where
     pub seen : w.count_seen ≡ n
     pub low : length (own w) ≤ n + length w.uncounted
     pub high : n ≤ length w.front
+    pub event : MakesStep fits counts v w

@@ -20,9 +20,10 @@ impl<F: Facts> Cells<F> {
     pub fn key_at(&self, pass: &mut Pass<F>, cell: Cell) -> KeyWord
         requires of { IsOf self.now pass.old }
         requires cell { IsCell self.now.layout cell.generation cell.index }
-        ensures table { pass.new.table ≡ pass.old.table }
+        ensures of { IsOf self.now pass.new }
         ensures word { IsProperKey result }
-        ensures seen { KeySeen F.fits cell.generation cell.index (key_number result) pass.old.knows pass.new.knows }
+        ensures seen { KeySeen F.fits cell.generation cell.index (key_number result)
+            pass.old.knows pass.new.knows }
     {
         let word = key_word(&self.layout, cell);
         let found = self.table.shared.load::<KeyLoad<F>>(&mut pass.seat, word);
@@ -35,11 +36,13 @@ impl<F: Facts> Cells<F> {
         requires cell { IsCell self.now.layout cell.generation cell.index }
         requires key { IsWord key }
         requires free { pass.old.knows.claim ≡ None }
-        requires reached { Reaches pass.old.knows.layout (look pass.old.knows.known) cell.generation cell.index key }
+        requires reached { Reaches pass.old.knows.layout (look pass.old.knows.known)
+            cell.generation cell.index key }
         requires settled { SettledTo pass.old.knows cell.generation key }
-        ensures table { pass.new.table ≡ pass.old.table }
+        ensures of { IsOf self.now pass.new }
         ensures word { IsProperKey result }
-        ensures tried { KeyTried F.fits cell.generation cell.index key (key_number result) pass.old.knows pass.new.knows }
+        ensures tried { KeyTried F.fits cell.generation cell.index key (key_number result)
+            pass.old.knows pass.new.knows }
     {
         let word = key_word(&self.layout, cell);
         let before = self

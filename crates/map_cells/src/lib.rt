@@ -17,7 +17,7 @@ mod values;
 mod walks;
 mod words;
 
-pub use about::{About, Facts};
+pub use about::{About, AnyPair, Facts, TagOfFacts};
 pub use cells::Cells;
 pub use map_core::{Cell, Layout};
 pub use pass::Pass;

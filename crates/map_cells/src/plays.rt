@@ -10,9 +10,9 @@ pub struct TheRule<F> {
 }
 
 impl<F: Facts> TableRule<(), View, About> for TheRule<F> {
-    ghost use Rattle.map_cells.specs.Rule.{Kept, first_of};
+    ghost use Rattle.map_cells.specs.Rule.{TableHolds, first_of};
 
-    ghost holds = { λ a s. Kept F.fits a s };
+    ghost holds = { λ a s. TableHolds F.fits a s };
 
     ghost first = { first_of };
 }
@@ -95,9 +95,9 @@ impl<F: Facts> Play<(), View> for Settle<F> {
 }
 
 /// How a pass hands on one of its spare numbers.
-pub struct Cut;
+pub struct SplitPass;
 
-impl Split<View> for Cut {
+impl Split<View> for SplitPass {
     ghost use Rattle.map_core.specs.Knowing.{halved, newcomer};
 
     ghost left = { halved };
@@ -106,9 +106,9 @@ impl Split<View> for Cut {
 }
 
 /// How a pass takes another in.
-pub struct Glue;
+pub struct JoinPasses;
 
-impl Join<View> for Glue {
+impl Join<View> for JoinPasses {
     ghost use Rattle.map_core.specs.Knowing.{put_together, gone};
 
     ghost both = { put_together };

@@ -20,9 +20,10 @@ impl<F: Facts> Cells<F> {
     pub fn value_at(&self, pass: &mut Pass<F>, cell: Cell) -> ValueWord
         requires of { IsOf self.now pass.old }
         requires cell { IsCell self.now.layout cell.generation cell.index }
-        ensures table { pass.new.table ≡ pass.old.table }
+        ensures of { IsOf self.now pass.new }
         ensures word { IsProperValue result }
-        ensures seen { ValueSeen F.fits cell.generation cell.index (value_number result) pass.old.knows pass.new.knows }
+        ensures seen { ValueSeen F.fits cell.generation cell.index (value_number result)
+            pass.old.knows pass.new.knows }
     {
         let word = value_word(&self.layout, cell);
         let found = self.table.shared.load::<ValueLoad<F>>(&mut pass.seat, word);
@@ -36,20 +37,19 @@ impl<F: Facts> Cells<F> {
         requires cell { IsCell self.now.layout cell.generation cell.index }
         requires key { IsWord key }
         requires value { IsWord value }
-        requires seen { look pass.old.knows.known (key_place pass.old.knows.layout cell.generation cell.index) ≡ key }
+        requires seen { look pass.old.knows.known
+            (key_place pass.old.knows.layout cell.generation cell.index) ≡ key }
         requires fits { MayPublish F.fits cell.generation key value pass.old.knows }
-        ensures table { pass.new.table ≡ pass.old.table }
+        ensures of { IsOf self.now pass.new }
         ensures word { IsProperValue result }
-        ensures tried { ValueTried F.fits cell.generation cell.index key value (value_number result) pass.old.knows pass.new.knows }
+        ensures tried { ValueTried F.fits cell.generation cell.index key value (value_number result)
+            pass.old.knows pass.new.knows }
     {
         let word = value_word(&self.layout, cell);
         let found = self
             .table
             .shared
             .compare_exchange::<Publish<F>>(&mut pass.seat, word, 0, value);
-        if found == 0 {
-            pass.entries += 1;
-        }
         ValueWord::of(found)
     }
 }

@@ -1,18 +1,18 @@
 //! The two walks through a generation: one looks a key up, the other puts a pair in.
-ghost use Rattle.std.specs.Prelude.{◌≡◌, ◌≢◌, ◌<◌, ◌≤◌, None, Some, IfSome, IfNone, true, MatchBool, ◌+◌, ◌==◌};
-ghost use Rattle.map_core.specs.Sizes.{cells_of};
+ghost use Rattle.std.specs.Prelude.{◌≡◌, None, Some, IfSome, IfNone, true};
 ghost use Rattle.map_core.specs.History.{value_in, is_in};
-ghost use Rattle.map_core.specs.Places.{IsCell, key_place, home};
+ghost use Rattle.map_core.specs.Places.{Within, IsCell};
 ghost use Rattle.map_core.specs.Machine.{IsWord, Reaches};
 ghost use Rattle.map_core.specs.Passes.{look};
 ghost use Rattle.map_cells.specs.Seen.{IsOf};
 ghost use Rattle.map_cells.specs.Steps.{ClosedTo};
-ghost use Rattle.map_cells.specs.Walks.{Walks, Takes};
-ghost use Rattle.map_cells.specs.Puts.{SeeksAt, PutsAt, IsPut};
+ghost use Rattle.map_cells.specs.Walks.{Walks, ClaimsAtMost, Takes};
+ghost use Rattle.map_cells.specs.Puts.{HoldsKey, SeeksAt, TakesAt, MayPut, PutsAt, IsPut};
 
 use crate::about::Facts;
 use crate::cells::Cells;
 use crate::pass::Pass;
+use crate::places::{home, next};
 use crate::words::{KeyWord, ValueWord};
 use map_core::Cell;
 
@@ -32,20 +32,20 @@ pub(crate) enum Sought {
     Other,
 }
 
+// What the walk of a key makes of one cell: it was claimed for the key, the key stands in it, or another one does.
+#[derive(Clone, Copy)]
+pub(crate) enum Taken {
+    Claimed,
+    Stands,
+    Other,
+}
+
 // What one cell makes of a pair that is put in.
 #[derive(Clone, Copy)]
 pub(crate) enum Tried {
     Placed,
     Found(u64),
     Other,
-}
-
-/// The home cell of a key: the top bits of its product with a constant.
-fn home(generation: u32, key: u64) -> u64
-    requires { generation ≤ 17 }
-    ensures { result ≡ home generation key }
-{
-    key.wrapping_mul(11400714819323198485) >> (58 - generation)
 }
 
 impl<F: Facts> Cells<F> {
@@ -55,9 +55,10 @@ impl<F: Facts> Cells<F> {
         requires cell { IsCell self.now.layout cell.generation cell.index }
         requires last { cell.generation ≡ self.now.layout.last }
         requires key { IsWord key }
-        requires reached { Reaches pass.old.knows.layout (look pass.old.knows.known) cell.generation cell.index key }
+        requires reached { Reaches pass.old.knows.layout (look pass.old.knows.known)
+            cell.generation cell.index key }
         requires closed { ClosedTo pass.old.knows cell.generation key }
-        ensures table { pass.new.table ≡ pass.old.table }
+        ensures of { IsOf self.now pass.new }
         ensures walk { Walks F.fits pass.old.knows pass.new.knows }
         ensures sought { SeeksAt cell.generation cell.index key pass.new.knows result }
     {
@@ -77,50 +78,87 @@ impl<F: Facts> Cells<F> {
         }
     }
 
-    // The key that stands in a cell, which is claimed for the given key where it is empty.
-    fn key_taken(&self, pass: &mut Pass<F>, cell: Cell, key: u64) -> u64
+    // What the walk of a key makes of one cell, which is claimed for the key where it is empty.
+    fn take_key(&self, pass: &mut Pass<F>, cell: Cell, key: u64) -> Taken
         requires of { IsOf self.now pass.old }
         requires cell { IsCell self.now.layout cell.generation cell.index }
         requires last { cell.generation ≡ self.now.layout.last }
         requires key { IsWord key }
         requires free { pass.old.knows.claim ≡ None }
-        requires reached { Reaches pass.old.knows.layout (look pass.old.knows.known) cell.generation cell.index key }
+        requires reached { Reaches pass.old.knows.layout (look pass.old.knows.known)
+            cell.generation cell.index key }
         requires closed { ClosedTo pass.old.knows cell.generation key }
-        ensures table { pass.new.table ≡ pass.old.table }
-        ensures key { IsWord result }
-        ensures seen { look pass.new.knows.known (key_place pass.old.knows.layout cell.generation cell.index) ≡ result }
+        ensures of { IsOf self.now pass.new }
         ensures takes { Takes F.fits cell.generation cell.index pass.old.knows pass.new.knows }
-        ensures claim { result ≢ key → pass.new.knows.claim ≡ None }
+        ensures taken { TakesAt cell.generation cell.index key pass.new.knows result }
     {
         match self.key_at(pass, cell) {
             KeyWord::Empty => match self.claim(pass, cell, key) {
-                KeyWord::Empty => key,
+                KeyWord::Empty => Taken::Claimed,
                 KeyWord::Sealed => unreachable!(),
-                KeyWord::Key(found) => found,
+                KeyWord::Key(winner) => {
+                    if winner == key {
+                        Taken::Stands
+                    } else {
+                        Taken::Other
+                    }
+                }
             },
             KeyWord::Sealed => unreachable!(),
-            KeyWord::Key(found) => found,
+            KeyWord::Key(found) => {
+                if found == key {
+                    Taken::Stands
+                } else {
+                    Taken::Other
+                }
+            }
         }
     }
 
-    // Puts a pair into one cell of its key's walk, unless another key stands there.
+    // Puts a pair into one cell of its key's walk, unless another key stands there. A value that is there is found by
+    // a load alone.
     fn put_at(&self, pass: &mut Pass<F>, cell: Cell, key: u64, value: u64) -> Tried
         requires of { IsOf self.now pass.old }
         requires cell { IsCell self.now.layout cell.generation cell.index }
         requires last { cell.generation ≡ self.now.layout.last }
         requires key { IsWord key }
         requires value { IsWord value }
-        requires fits { F.fits pass.old.knows.tag key value }
+        requires fits { F.fits self.now.tag key value }
         requires free { pass.old.knows.claim ≡ None }
-        requires reached { Reaches pass.old.knows.layout (look pass.old.knows.known) cell.generation cell.index key }
+        requires reached { Reaches pass.old.knows.layout (look pass.old.knows.known)
+            cell.generation cell.index key }
         requires closed { ClosedTo pass.old.knows cell.generation key }
-        ensures table { pass.new.table ≡ pass.old.table }
-        ensures put { PutsAt F.fits cell.generation cell.index key value pass.old.knows pass.new.knows result }
+        ensures of { IsOf self.now pass.new }
+        ensures put { PutsAt F.fits cell.generation cell.index key value
+            pass.old.knows pass.new.knows result }
     {
-        let stands = self.key_taken(pass, cell, key);
-        if stands != key {
-            return Tried::Other;
+        match self.take_key(pass, cell, key) {
+            Taken::Claimed => self.put_value(pass, cell, key, value),
+            Taken::Stands => match self.value_at(pass, cell) {
+                ValueWord::Unset => self.put_value(pass, cell, key, value),
+                ValueWord::Closed => unreachable!(),
+                ValueWord::Value(found) => Tried::Found(found),
+            },
+            Taken::Other => Tried::Other,
         }
+    }
+
+    // Puts a value into a cell in which its key was seen, unless a value is there.
+    fn put_value(&self, pass: &mut Pass<F>, cell: Cell, key: u64, value: u64) -> Tried
+        requires of { IsOf self.now pass.old }
+        requires cell { IsCell self.now.layout cell.generation cell.index }
+        requires last { cell.generation ≡ self.now.layout.last }
+        requires key { IsWord key }
+        requires value { IsWord value }
+        requires fits { F.fits self.now.tag key value }
+        requires claim { ClaimsAtMost cell.generation cell.index pass.old.knows }
+        requires seen { HoldsKey cell.generation cell.index key pass.old.knows }
+        requires closed { ClosedTo pass.old.knows cell.generation key }
+        ensures of { IsOf self.now pass.new }
+        ensures free { pass.new.knows.claim ≡ None }
+        ensures put { PutsAt F.fits cell.generation cell.index key value
+            pass.old.knows pass.new.knows result }
+    {
         match self.publish(pass, cell, key, value) {
             ValueWord::Unset => Tried::Placed,
             ValueWord::Closed => unreachable!(),
@@ -133,12 +171,12 @@ impl<F: Facts> Cells<F> {
         requires of { IsOf self.now pass.old }
         requires key { IsWord key }
         requires current { is_in generation pass.old.knows.currents ≡ true }
-        ensures table { pass.new.table ≡ pass.old.table }
+        ensures of { IsOf self.now pass.new }
         ensures walk { Walks F.fits pass.old.knows pass.new.knows }
         ensures some { IfSome result (λ v. value_in pass.new.knows.front key ≡ Some v) }
         ensures none { IfNone result (value_in pass.new.knows.front key ≡ None) }
     {
-        pass.told();
+        pass.recall();
         let cells = self.layout().cells(generation);
         let mut index = home(generation, key);
         let mut steps = 0;
@@ -154,18 +192,19 @@ impl<F: Facts> Cells<F> {
         None
     }
 
-    /// Puts a pair into a generation that was seen current, or above it, unless the key has a value there.
+    /// Puts a pair into a generation or above it, unless the key has a value there. The generation was seen current,
+    /// and the pair fits; or the one below it was, and the pair is seen published there.
     pub fn put_from(&self, pass: &mut Pass<F>, generation: u32, key: u64, value: u64) -> Put
         requires of { IsOf self.now pass.old }
         requires key { IsWord key }
         requires value { IsWord value }
-        requires fits { F.fits pass.old.knows.tag key value }
-        requires current { is_in generation pass.old.knows.currents ≡ true }
+        requires generation { Within self.now.layout generation }
+        requires may { MayPut F.fits generation key value pass.old.knows }
         requires free { pass.old.knows.claim ≡ None }
-        ensures table { pass.new.table ≡ pass.old.table }
+        ensures of { IsOf self.now pass.new }
         ensures put { IsPut F.fits generation key value pass.old.knows pass.new.knows result }
     {
-        pass.told();
+        pass.recall();
         let cells = self.layout().cells(generation);
         let mut index = home(generation, key);
         let mut steps = 0;
@@ -180,12 +219,4 @@ impl<F: Facts> Cells<F> {
         }
         Put::Exhausted
     }
-}
-
-// The cell after this one, which wraps at the end.
-fn next(index: u64, cells: u64) -> u64
-    requires { index < cells }
-    ensures { MatchBool (index + 1 == cells) (result ≡ 0) ((result ≡ index + 1) × (result < cells)) }
-{
-    if index + 1 == cells { 0 } else { index + 1 }
 }

@@ -8,7 +8,7 @@ pub mod CallLemmas
 pub mod PassLemmas
 pub mod TurnLemmas
 pub mod CountLemmas
-pub mod TellLemmas
+pub mod FactLemmas
 pub mod JoinLemmas
 pub mod StartLemmas
 pub mod AbsentLemmas

@@ -6,7 +6,7 @@ use Rattle.map_core.specs.declared.entry.Entry.{Entry}
 use Rattle.map_core.specs.declared.layout.Layout.{Layout}
 use Rattle.map_core.specs.Sizes.{cells_of}
 use Rattle.map_core.specs.History.{value_in}
-use Rattle.map_core.specs.Places.{key_place, value_place, finish_place, Within, IsCell}
+use Rattle.map_core.specs.Places.{key_place, value_place, finish_place, Within, IsCell, IsBlock}
 use Rattle.map_core.specs.Machine.{greatest, IsWord, Keeps, Only, Reaches, IsPublished, IsMoved, OneCellPerKey, ClosedBelow, MovedBelow, FinishedBlocks, OneHistory, State, Sound}
 use Rattle.map_core.specs.Events.{Event, claims, publishes, seals_key, seals_value, counts, takes, finishes, switches, entry, Writes, Rests, IsStep, IsStart, Lawful, at_start, and_then}
 use Rattle.map_core.proofs.SizeLemmas.{blocks_pos}
@@ -67,7 +67,7 @@ module _ (l : Layout) (C D : ℕ → ℕ) (keeps : Keeps C D) (m : OneCellPerKey
   pub finished_on : ((g b : ℕ) → D (finish_place l g b) ≡ C (finish_place l g b)) → FinishedBlocks l C → FinishedBlocks l D
   finished_on same f = record { finished = λ g b w one. moved_on g b (f.finished g b w (sym (same g b) ∙ one)) }
 
-  pub finished_more : (p : ℕ) → Only p C D → ((g b : ℕ) → Within l g → finish_place l g b ≡ p → IsMoved l C g b) → FinishedBlocks l C → FinishedBlocks l D
+  pub finished_more : (p : ℕ) → Only p C D → ((g b : ℕ) → IsBlock l g b → finish_place l g b ≡ p → IsMoved l C g b) → FinishedBlocks l C → FinishedBlocks l D
   finished_more p only new f =
       record {
         finished = λ g b w one. dite (ℕ_discrete (finish_place l g b) p)
@@ -113,32 +113,37 @@ module _ (l : Layout) (fits : ℕ → ℕ → Type 0) where
 
   -- each event keeps the facts
   pub step_sound : (e : Event) (s t : State) → IsStep l fits e s t → Sound l fits s → Sound l fits t
-  step_sound (claims g i k) s t (a, word, reaches, settled, wr, log) so = sound_key s t g i k a wr log (λ _. reaches) (λ _. word.1) so
-  step_sound (publishes who g i k v) s t (a, key, value, there, wr, adds) so =
-      let at : IsWord (s.cells (key_place l g i)) = subst IsWord (sym there) key in
+  step_sound (claims g i k) s t e so = sound_key s t g i k e.cell e.word e.history (λ _. e.reached) (λ _. e.key.1) so
+  step_sound (publishes who g i k v) s t e so =
+      let key : IsWord (s.cells (key_place l g i)) = subst IsWord (sym e.stands) e.key in
+      let wr = e.word in
       let history : OneHistory l t.cells fits t.history = ⊎_elim
       (λ (old : (value_in s.history k ≡ Some v) × (t.history ≡ s.history)).
       subst (λ (x : List Entry). OneHistory l t.cells fits x) (sym old.1)
-      (value_history l s.cells t.cells g i v a at wr.was wr.is wr.only fits s.history (λ _. subst (λ (x : ℕ). value_in s.history x ≡ Some v) (sym there) old.0) so.history))
+      (value_history l s.cells t.cells g i v e.cell key wr.was wr.is wr.only fits s.history (λ _. subst (λ (x : ℕ). value_in s.history x ≡ Some v) (sym e.stands) old.0) so.history))
       (λ (new : (value_in s.history k ≡ None) × fits k v × (t.history ≡ s.history ++ entry who k v ∷ [])).
       subst (λ (x : List Entry). OneHistory l t.cells fits x) (sym new.2)
-      (value_new_history l s.cells t.cells g i v a at wr.was wr.is wr.only fits s.history (entry who k v) (sym there) refl value new.0 new.1 so.history))
-      adds in
-      sound_value s t g i v a at wr history (λ _. value.1) so
-  step_sound (seals_key g i) s t (a, below, wr, log) so = sound_key s t g i greatest a wr log (λ w. let lt = w.1 in absurd (omega arith)) (λ e. absurd (omega arith)) so
-  step_sound (seals_value g i) s t (a, below, key, alone, wr, log) so =
-      let history : OneHistory l t.cells fits t.history = subst (λ (x : List Entry). OneHistory l t.cells fits x) (sym log)
-      (value_history l s.cells t.cells g i greatest a key wr.was wr.is wr.only fits s.history (λ w. let lt = w.1 in absurd (omega arith)) so.history) in
-      sound_value s t g i greatest a key wr history (λ e. absurd (omega arith)) so
-  step_sound counts s t (r, count, current, taken) so = sound_rests s t r (subst (Within l) (sym current) so.moved.within) so
-  step_sound (takes g) s t (w, r, taken, others, current, count) so = sound_rests s t r (subst (Within l) (sym current) so.moved.within) so
-  step_sound (finishes g b) s t (w, small, moved, wr, log) so =
-      let is = one_generation l g w in
-      absurd (never_moved l s.cells b so.cells (subst (λ (x : ℕ). b < cells_of x / 64) is small) (subst (λ (x : ℕ). IsMoved l s.cells x b) is moved))
-  step_sound switches s t (r, all_finished, full, current, count, taken) so =
+      (value_new_history l s.cells t.cells g i v e.cell key wr.was wr.is wr.only fits s.history (entry who k v) (sym e.stands) refl e.value new.0 new.1 so.history))
+      e.adds in
+      sound_value s t g i v e.cell key wr history (λ _. e.value.1) so
+  step_sound (seals_key g i) s t e so =
+      let below = e.below in
+      sound_key s t g i greatest e.cell e.word e.history (λ w. let lt = w.1 in absurd (omega arith)) (λ same. absurd (omega arith)) so
+  step_sound (seals_value g i) s t e so =
+      let below = e.below in
+      let wr = e.word in
+      let history : OneHistory l t.cells fits t.history = subst (λ (x : List Entry). OneHistory l t.cells fits x) (sym e.history)
+      (value_history l s.cells t.cells g i greatest e.cell e.key wr.was wr.is wr.only fits s.history (λ w. let lt = w.1 in absurd (omega arith)) so.history) in
+      sound_value s t g i greatest e.cell e.key wr history (λ same. absurd (omega arith)) so
+  step_sound counts s t e so = sound_rests s t e.rests (subst (Within l) (sym e.current) so.moved.within) so
+  step_sound (takes g) s t e so = sound_rests s t e.rests (subst (Within l) (sym e.current) so.moved.within) so
+  step_sound (finishes g b) s t e so =
+      let is = one_generation l g e.block.0 in
+      absurd (never_moved l s.cells b so.cells (subst (λ (x : ℕ). b < cells_of x / 64) is e.block.1) (subst (λ (x : ℕ). IsMoved l s.cells x b) is e.moved))
+  step_sound switches s t e so =
       let is = one_generation l s.current so.moved.within in
-      let one = all_finished 0 (blocks_pos s.current) in
-      absurd (never_moved l s.cells 0 so.cells (blocks_pos l.last) (subst (λ (x : ℕ). IsMoved l s.cells x 0) is (so.finished.finished s.current 0 so.moved.within one)))
+      let one = e.finished 0 (blocks_pos s.current) in
+      absurd (never_moved l s.cells 0 so.cells (blocks_pos l.last) (subst (λ (x : ℕ). IsMoved l s.cells x 0) is (so.finished.finished s.current 0 (so.moved.within, blocks_pos s.current) one)))
 
   pub start_sound : (s : State) → IsStart l fits s → Sound l fits s
   start_sound s st =

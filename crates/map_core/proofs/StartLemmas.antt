@@ -9,7 +9,7 @@ use Rattle.map_core.specs.declared.view.View.{View}
 use Rattle.map_core.specs.Places.{lowest, key_place, Within}
 use Rattle.map_core.specs.Machine.{State}
 use Rattle.map_core.specs.History.{is_in}
-use Rattle.map_core.specs.Passes.{all_numbers, PassAt, HasFirst, SeesAll, FrontsOfOneHistory, CountIsHonest, OpenClaims, Together, Told}
+use Rattle.map_core.specs.Passes.{all_numbers, PassAt, HasFirst, SeesAll, FrontsOfOneHistory, CountIsHonest, OpenClaims, Together, PassFacts}
 use Rattle.map_core.specs.Knowing.{first_view}
 use Rattle.map_core.proofs.SizeLemmas.{cells_pos}
 use Rattle.map_core.proofs.PlaceLemmas.{lowest_within}
@@ -68,14 +68,15 @@ module _ (l : Layout) (mark : List ℕ) (s : State) (cells : (q : ℕ) → s.cel
       }
 
 -- what the first pass knows by itself
-pub first_told : (fits : List ℕ → ℕ → ℕ → Type 0) (l : Layout) (mark : List ℕ) → Told fits (first_view l mark)
-first_told fits l mark =
+pub first_facts : (fits : List ℕ → ℕ → ℕ → Type 0) (l : Layout) (mark : List ℕ) → PassFacts fits (first_view l mark)
+first_facts fits l mark =
     let passes : ℕ = l.passes in
     let some_pass : 1 ≤ passes = l.passes_fit.0 in
     record {
       live = refl;
       alone = (refl, refl);
       own = in_hit 0 0 [] refl;
+      distinct = (refl, tt);
       number = let goal : 0 < passes = omega arith in goal;
       spare = let goal : passes - 1 < passes = omega arith in goal;
       others = λ h. absurd (omega arith);
@@ -87,6 +88,8 @@ first_told fits l mark =
       generation = in_hit (lowest l) (lowest l) [] refl;
       currents = λ c h. dite (ℕ_discrete c (lowest l)) (λ e. subst (Within l) (sym e) (lowest_within l)) (λ ne. absurd (true≢false (sym h ∙ in_miss c (lowest l) [] ne)));
       seen = λ g i a key value. let pos = key.0 in absurd (omega arith);
+      full = λ k passed. let pos = (passed.others 0 (cells_pos l.last)).0.0 in absurd (omega arith);
       ends = λ c k word current closed passed. let pos = (passed.others 0 (cells_pos l.last)).0.0 in absurd (omega arith);
+      count_seen = omega arith;
       small = omega arith;
     }

@@ -1,12 +1,12 @@
 -- The words of a table at one moment, and the facts that hold of them at every moment.
 -- A key word is 0 (empty), the greatest number (sealed) or a key. A value word is 0 (unset), the greatest number (closed) or a value.
 -- C q is the word at place q.
-use Rattle.std.specs.Prelude.{◌≡◌, ◌≢◌, ◌⊎◌, ℕ, ◌+◌, ◌/◌, ◌<◌, ◌≤◌, List, Some, slice_index}
+use Rattle.std.specs.Prelude.{◌≡◌, ◌≢◌, ◌⊎◌, ℕ, ◌/◌, ◌<◌, ◌≤◌, List, Some}
 use Rattle.map_core.specs.declared.entry.Entry.{Entry}
 use Rattle.map_core.specs.declared.layout.Layout.{Layout}
 use Rattle.map_core.specs.Sizes.{cells_of}
 use Rattle.map_core.specs.History.{value_in, IsLegalHistory}
-use Rattle.map_core.specs.Places.{lowest, key_place, value_place, finish_place, cells_in, spot, Within, IsCell}
+use Rattle.map_core.specs.Places.{key_place, value_place, finish_place, current_in, count_in, cells_in, spot, Within, IsCell, IsBlock}
 
 abbrev pub greatest : ℕ
 greatest = 18446744073709551615
@@ -91,7 +91,7 @@ module _ (l : Layout) (C : ℕ → ℕ) where
 
   -- A block whose finish word is 1 is done and moved
   pub record FinishedBlocks : Type 0 where
-    pub finished : (g b : ℕ) → Within l g → C (finish_place l g b) ≡ 1 → IsMoved g b
+    pub finished : (g b : ℕ) → IsBlock l g b → C (finish_place l g b) ≡ 1 → IsMoved g b
 
   module _ (fits : ℕ → ℕ → Type 0) (log : List Entry) where
     -- All published cells of a key hold the value that the history has of it. The history has no other keys, each once, and each entry fits
@@ -118,4 +118,10 @@ pub record Sound (l : Layout) (fits : ℕ → ℕ → Type 0) (s : State) : Type
 
 -- a table with these words. It has no take words yet
 abbrev pub state_of : Layout → List ℕ → List Entry → State
-state_of l words log = record { current = lowest l + slice_index words 0; count = slice_index words 1; takes = λ q. 0; cells = cells_in l words; history = log }
+state_of l words log = record {
+  current = current_in l words;
+  count = count_in words;
+  takes = λ q. 0;
+  cells = cells_in l words;
+  history = log;
+}

@@ -137,10 +137,11 @@ pub record Turn (l : Layout) (mark : List ℕ) (s t : State) (i : ℕ) (v w : Vi
   pub claims : (g j : ℕ) → IsCell l g j → IsUnset l t.cells g j → (w.claim ≡ Some (cell g j)) ⊎ (IsUnset l s.cells g j × (v.claim ≢ Some (cell g j)))
 
 -- What is true of a pass by itself after every step: its front is legal, and what it has seen published is in it
-pub record Told (fits : List ℕ → ℕ → ℕ → Type 0) (v : View) : Type 0 where
+pub record PassFacts (fits : List ℕ → ℕ → ℕ → Type 0) (v : View) : Type 0 where
   pub live : v.live ≡ true
   pub alone : (v.beside ≡ []) × (v.beside_numbers ≡ [])
   pub own : is_in v.number v.numbers ≡ true
+  pub distinct : Distinct v.numbers
   pub number : v.number < v.layout.passes
   pub spare : v.spare < v.layout.passes
   pub others : 0 < v.number → v.spare ≡ 0
@@ -154,7 +155,14 @@ pub record Told (fits : List ℕ → ℕ → ℕ → Type 0) (v : View) : Type 0
   pub currents : (c : ℕ) → is_in c v.currents ≡ true → Within v.layout c
   pub seen : (g i : ℕ) → IsCell v.layout g i → IsWord (look v.known (key_place v.layout g i)) → IsWord (look v.known (value_place v.layout g i))
       → value_in v.front (look v.known (key_place v.layout g i)) ≡ Some (look v.known (value_place v.layout g i))
-  -- where the key is seen closed from a current generation up to the last, and the last is seen full of other keys, the front lacks the key and has at least the capacity's entries
-  pub ends : (c k : ℕ) → IsWord k → is_in c v.currents ≡ true → ((h : ℕ) → c ≤ h → h < v.layout.last → IsClosed v.layout (look v.known) h k)
-      → Passed v.layout (look v.known) v.layout.last k (cells_of v.layout.last) → (value_in v.front k ≡ None) × (v.layout.capacity ≤ length v.front)
+  -- where the key is seen closed from a current generation up to the last, and the last is seen full of other keys,
+  -- the front lacks the key
+  pub ends : (c k : ℕ) → IsWord k → is_in c v.currents ≡ true
+      → ((h : ℕ) → c ≤ h → h < v.layout.last → IsClosed v.layout (look v.known) h k)
+      → Passed v.layout (look v.known) v.layout.last k (cells_of v.layout.last) → value_in v.front k ≡ None
+  -- and it has at least the capacity's entries
+  pub full : (k : ℕ) → Passed v.layout (look v.known) v.layout.last k (cells_of v.layout.last)
+      → v.layout.capacity ≤ length v.front
+  -- no count that it has seen is above its front's entries
+  pub count_seen : v.count_seen ≤ length v.front
   pub small : length v.front ≤ word_count v.layout

@@ -2,6 +2,7 @@
 -- A place is a number: the words of the cells lie behind the first words of the table, each at its place.
 use Rattle.std.specs.Prelude.{ℕ, ◌+◌, ◌-◌, ◌*◌, ◌/◌, ◌%◌, ◌^◌, ◌<◌, ◌≤◌, List, slice_index}
 use Rattle.map_core.specs.declared.layout.Layout.{Layout}
+use Rattle.map_core.specs.declared.places.TheConstants.{CURRENT_WORD, COUNT_WORD, FIRST_CELL_WORD, HASH_MULTIPLIER}
 use Rattle.map_core.specs.Sizes.{cells_of}
 
 -- the lowest generation that is laid out: for now the last
@@ -22,12 +23,20 @@ value_place l g i = 2 * (base l g + i) + 1
 unfoldable pub finish_place : Layout → ℕ → ℕ → ℕ
 finish_place l g b = 2 * (base l l.last + cells_of l.last) + (base l g / 64 + b)
 
--- word 0 is the current generation, counted from the lowest one, and word 1 the count of entries
+-- the words of the cells lie behind the current generation and the count, on cache lines of their own
 unfoldable pub offset : Layout → ℕ
-offset l = 2
+offset l = FIRST_CELL_WORD
 
 unfoldable pub word_count : Layout → ℕ
 word_count l = 2 * (base l l.last + cells_of l.last) + offset l
+
+-- the current generation, counted from the lowest one
+abbrev pub current_in : Layout → List ℕ → ℕ
+current_in l words = lowest l + slice_index words CURRENT_WORD
+
+-- the count of entries
+abbrev pub count_in : List ℕ → ℕ
+count_in words = slice_index words COUNT_WORD
 
 -- the words of the cells, by their places
 abbrev pub cells_in : Layout → List ℕ → ℕ → ℕ
@@ -35,7 +44,7 @@ cells_in l words q = slice_index words (q + offset l)
 
 -- the home cell of a key: the top bits of its product with a constant
 unfoldable pub home : ℕ → ℕ → ℕ
-home g k = k * 11400714819323198485 % 2 ^ 64 / 2 ^ (58 - g)
+home g k = k * HASH_MULTIPLIER % 2 ^ 64 / 2 ^ (58 - g)
 
 -- the cell at step d of the walk of a key, which goes upwards from its home and wraps
 unfoldable pub spot : ℕ → ℕ → ℕ → ℕ
@@ -46,3 +55,7 @@ Within l g = (lowest l ≤ g) × (g ≤ l.last)
 
 abbrev pub IsCell : Layout → ℕ → ℕ → Type 0
 IsCell l g i = Within l g × (i < cells_of g)
+
+-- a generation has a block for each 64 cells
+abbrev pub IsBlock : Layout → ℕ → ℕ → Type 0
+IsBlock l g b = Within l g × (b < cells_of g / 64)

@@ -1,6 +1,13 @@
 //! The sizes of a table.
 ghost use Rattle.std.specs.Prelude.{◌≡◌, ◌≤◌};
 ghost use Rattle.map_core.specs.Sizes.{cells_of, IsLastFor};
+ghost use Rattle.map_core.specs.declared.layout.TheConstants.{MOST_ENTRIES, MOST_PASSES};
+
+/// The greatest capacity of a table.
+pub const MOST_ENTRIES: u64 = 4194304;
+
+/// The most passes of a table.
+pub const MOST_PASSES: u32 = 128;
 
 /// The sizes of a table: how many entries it has room for, how many passes may be made, and its last generation.
 ///
@@ -11,16 +18,16 @@ pub struct Layout {
     pub capacity: u64,
     pub passes: u32,
     pub last: u32,
-    pub ghost capacity_fits: { (1 ≤ capacity) × (capacity ≤ 4194304) },
-    pub ghost passes_fit: { (1 ≤ passes) × (passes ≤ 128) },
+    pub ghost capacity_fits: { (1 ≤ capacity) × (capacity ≤ MOST_ENTRIES) },
+    pub ghost passes_fit: { (1 ≤ passes) × (passes ≤ MOST_PASSES) },
     pub ghost last_fits: { IsLastFor capacity passes last },
 }
 
 impl Layout {
     /// The sizes for this many entries and passes.
     pub fn of(capacity: u64, passes: u32) -> Layout
-        requires capacity { (1 ≤ capacity) × (capacity ≤ 4194304) }
-        requires passes { (1 ≤ passes) × (passes ≤ 128) }
+        requires capacity { (1 ≤ capacity) × (capacity ≤ MOST_ENTRIES) }
+        requires passes { (1 ≤ passes) × (passes ≤ MOST_PASSES) }
         ensures capacity { result.capacity ≡ capacity }
         ensures passes { result.passes ≡ passes }
         ensures last { IsLastFor capacity passes result.last }

@@ -10,10 +10,12 @@ mod cell;
 mod entry;
 mod laws;
 mod layout;
+mod places;
 mod view;
 
 pub use cell::Cell;
 pub use entry::Entry;
 pub use laws::{Fitting, calls_in_order, first_value_is_kept, lawful_events};
-pub use layout::Layout;
+pub use layout::{Layout, MOST_ENTRIES, MOST_PASSES};
+pub use places::{COUNT_WORD, CURRENT_WORD, FIRST_CELL_WORD, HASH_MULTIPLIER};
 pub use view::View;

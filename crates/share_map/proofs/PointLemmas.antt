@@ -1,24 +1,22 @@
 -- What the walks and the count tell, as a call at its point.
-use Rattle.std.proofs.Common.{◌≡◌, ℕ, ◌+◌, ◌-◌, ◌≤◌, true, List, [], ◌∷◌, ◌++◌, length, Option, Some, None, IfSome, IfNone, refl, sym, ap, subst, ◌∙◌, inl, inr, arith, length-append}
+use Rattle.std.proofs.Common.{◌≡◌, ℕ, ◌+◌, ◌-◌, ◌<◌, ◌≤◌, true, List, [], ◌∷◌, ◌++◌, length, Option, Some, None, IfSome, IfNone, refl, sym, ap, subst, ◌∙◌, inl, inr, arith, length-append}
 use Rattle.map_core.specs.declared.entry.Entry.{Entry}
 use Rattle.map_core.specs.declared.layout.Layout.{Layout}
 use Rattle.map_core.specs.declared.view.View.{View}
 use Rattle.map_core.specs.History.{value_in, IsLegalHistory, is_in, StartsWith, StartsWithOwn}
-use Rattle.map_core.specs.Events.{entry}
-use Rattle.map_core.specs.Calls.{own, SamePass, IsPoint, FindsAt, PlacesAt, FoundAt, FullAt}
-use Rattle.map_core.specs.Passes.{placed, Told}
-use Rattle.map_core.specs.Knowing.{first_view}
 use Rattle.map_core.specs.Places.{lowest}
-use Rattle.map_core.proofs.HistoryLemmas.{value_stays}
-use Rattle.map_core.proofs.CallLemmas.{map_get, starts_same, starts_trans, value_longer}
-use Rattle.map_cells.specs.Seen.{CellsView, PassView, IsOf}
-use Rattle.map_cells.specs.Steps.{Steps, CountSeen, CountRaised}
+use Rattle.map_core.specs.Events.{entry}
+use Rattle.map_core.specs.Calls.{IsPoint, FindsAt, PlacesAt, FoundAt, FullAt}
+use Rattle.map_core.specs.Passes.{AtRest, PassFacts}
+use Rattle.map_core.specs.Knowing.{rest_of}
+use Rattle.map_core.proofs.HistoryLemmas.{value_new, fits_in}
+use Rattle.map_core.proofs.CallLemmas.{own_stays, map_get, starts_same, starts_trans, value_longer}
+use Rattle.map_cells.specs.Seen.{CellsView, PassView, Follows}
+use Rattle.map_cells.specs.Steps.{Steps, CountSeen, IsPlaced, CountRaised}
 use Rattle.map_cells.specs.Walks.{Walks}
 use Rattle.map_cells.specs.Puts.{PutsNew}
-use Rattle.map_cells.specs.Passing.{IsJoined}
-use Rattle.map_cells.proofs.Allowed.{own_stays}
+use Rattle.map_cells.specs.Passing.{BeginsCells, IsJoined}
 use Rattle.map_cells.proofs.WalkLemmas.{steps_then, current_last}
-use Rattle.map_core.proofs.PlaceLemmas.{one_generation, lowest_within}
 use Rattle.share_map.specs.Answers.{IsNew, HasRoom, PutTogether}
 
 pub answer_is : (o f : Option ℕ) → IfSome o (λ v. f ≡ Some v) → IfNone o (f ≡ None) → o ≡ f
@@ -28,109 +26,174 @@ answer_is (Some x) f s n = sym s
 pub starts_length : (a b : List Entry) → StartsWith a b → length a ≤ length b
 starts_length a b p = let e = ap (λ (x : List Entry). length x) p.joins in let f = length-append a p.rest in let m : ℕ = length a in let n : ℕ = length b in let r : ℕ = length p.rest in let c : ℕ = length (a ++ p.rest) in let e' : c ≡ n = e in let f' : c ≡ m + r = f in let goal : m ≤ n = omega arith in goal
 
-pub same_of : (v w : View) → Steps v w → SamePass v w
-same_of v w s = record { number = s.number; numbers = s.numbers; spare = s.spare; tag = s.tag }
+-- a walk, as what a call keeps
+pub walks_follow : (fits : List ℕ → ℕ → ℕ → Type 0) (p q : PassView) → q.table ≡ p.table → Walks fits p.knows q.knows → Follows p q
+walks_follow fits p q table walks =
+    let s = walks.looks.steps in
+    record {
+      table = table;
+      layout = s.layout;
+      tag = s.tag;
+      number = s.number;
+      numbers = s.numbers;
+      spare = s.spare;
+      front = s.front;
+      rest = λ r. record { claim = walks.claim r.claim; uncounted = walks.uncounted ∙ r.uncounted };
+    }
 
 module _ (fits : List ℕ → ℕ → ℕ → Type 0) where
   -- for now the last generation is the current one
-  pub last_current : (v : View) → Told fits v → is_in v.layout.last v.currents ≡ true
-  last_current v told = subst (λ (g : ℕ). is_in g v.currents ≡ true) (current_last fits v v.generation told told.generation) told.generation
+  pub last_current : (v : View) → PassFacts fits v → is_in v.layout.last v.currents ≡ true
+  last_current v facts = subst (λ (g : ℕ). is_in g v.currents ≡ true) (current_last fits v v.generation facts facts.generation) facts.generation
 
-  pub has_room : (w : View) → Told fits w → HasRoom w
-  has_room w told = inr (inl (current_last fits w w.generation told told.generation))
+  pub has_room : (w : View) → PassFacts fits w → HasRoom w
+  has_room w facts = inr (inl (current_last fits w w.generation facts facts.generation))
 
-  pub legal_for : (v w : View) → Steps v w → Told fits w → IsLegalHistory (fits v.tag) w.front
-  legal_for v w s told = subst (λ (t : List ℕ). IsLegalHistory (fits t) w.front) s.tag told.legal
-
-  -- a call that adds nothing stands at the pass's new front
-  pub point_at_end : (v w : View) → Walks fits v w → IsPoint (fits v.tag) v w w.front
-  point_at_end v w walks =
-      let s = walks.looks.steps in
-      let legal = legal_for v w s walks.told in
-      record { after = s.front; before = starts_same w.front; legal_here = legal; legal = legal; same = same_of v w s }
-
+  -- the count that a pass has seen
   pub count_walks : (n : ℕ) (v w : View) → CountSeen fits n v w → Walks fits v w
-  count_walks n v w s = record { looks = s.looks; told = s.told; claim = λ e. s.claim ∙ e; uncounted = s.uncounted; counted = s.counted }
+  count_walks n v w s = record { looks = s.looks; facts = s.facts; claim = λ e. s.claim ∙ e; uncounted = s.uncounted; counted = s.counted }
 
-  pub finds_at : (k : ℕ) (v w : View) (answer : Option ℕ) → Walks fits v w → answer ≡ value_in w.front k → FindsAt (fits v.tag) v w k answer
-  finds_at k v w answer walks is = record { point = point_at_end v w walks; value = is ∙ sym (map_get w.front k); own = walks.looks.own }
+  module _ (t : List ℕ) where
+    legal_for : (w : View) → w.tag ≡ t → PassFacts fits w → IsLegalHistory (fits t) w.front
+    legal_for w tag facts = subst (λ (x : List ℕ). IsLegalHistory (fits x) w.front) tag facts.legal
 
-  pub found_at : (k x : ℕ) (v w : View) → Walks fits v w → value_in w.front k ≡ Some x → FoundAt (fits v.tag) v w k x
-  found_at k x v w walks is = record { point = point_at_end v w walks; value = map_get w.front k ∙ is; own = walks.looks.own }
+    -- a call that adds nothing stands at the pass's new front
+    pub point_at_end : (v w : View) → v.tag ≡ t → Walks fits v w → IsPoint (fits t) v w w.front
+    point_at_end v w tag walks =
+        let s = walks.looks.steps in
+        let legal = legal_for w (s.tag ∙ tag) walks.facts in
+        record { after = s.front; before = starts_same w.front; legal_here = legal; legal = legal }
 
-  pub full_at : (capacity k : ℕ) (v w : View) → Walks fits v w → value_in w.front k ≡ None → capacity ≤ length w.front → FullAt (fits v.tag) v w capacity k
-  full_at capacity k v w walks lacks full = record { point = point_at_end v w walks; lacks = map_get w.front k ∙ lacks; full = full; own = walks.looks.own }
+    answer_fits : (k : ℕ) (front : List Entry) → IsLegalHistory (fits t) front → (answer : Option ℕ) → answer ≡ value_in front k → IfSome answer (λ x. fits t k x)
+    answer_fits k front legal None is = tt
+    answer_fits k front legal (Some x) is = fits_in (fits t) front k x legal (sym is)
+
+    pub finds_at : (k : ℕ) (v w : View) (answer : Option ℕ) → v.tag ≡ t → Walks fits v w → answer ≡ value_in w.front k → FindsAt (fits t) v w k answer
+    finds_at k v w answer tag walks is =
+        let point = point_at_end v w tag walks in
+        record { point = point; value = is ∙ sym (map_get w.front k); value_fits = answer_fits k w.front point.legal answer is; own = walks.looks.own }
+
+    pub found_at : (k x : ℕ) (v w : View) → v.tag ≡ t → Walks fits v w → value_in w.front k ≡ Some x → FoundAt (fits t) v w k x
+    found_at k x v w tag walks is =
+        let point = point_at_end v w tag walks in
+        record { point = point; value = map_get w.front k ∙ is; value_fits = fits_in (fits t) w.front k x point.legal is; own = walks.looks.own }
+
+    pub full_at : (capacity k : ℕ) (v w : View) → v.tag ≡ t → Walks fits v w → value_in w.front k ≡ None → capacity ≤ length w.front → FullAt (fits t) v w capacity k
+    full_at capacity k v w tag walks lacks full = record { point = point_at_end v w tag walks; lacks = map_get w.front k ∙ lacks; full = full; own = walks.looks.own }
 
   -- what was in the old front has its value in the new one
   pub still_found : (k x : ℕ) (v w : View) → Walks fits v w → value_in v.front k ≡ Some x → value_in w.front k ≡ Some x
-  still_found k x v w walks h = let p = walks.looks.steps.front in subst (λ (y : List Entry). value_in y k ≡ Some x) p.joins (value_stays v.front p.rest k x h)
+  still_found k x v w walks h = value_longer v.front w.front k x walks.looks.steps.front h
+
+  -- so an insert finds it
+  pub kept_found : (k x found : ℕ) (v w : View) → Walks fits v w → value_in w.front k ≡ Some found → value_in v.front k ≡ Some x → found ≡ x
+  kept_found k x found v w walks is h = let e : Some found ≡ Some x = sym is ∙ still_found k x v w walks h in cc
+
+  pub kept_lacks : (k x : ℕ) (v w : View) → Walks fits v w → value_in w.front k ≡ None → value_in v.front k ≡ Some x → ⊥
+  kept_lacks k x v w walks lacks h = let e : None ≡ Some x = sym lacks ∙ still_found k x v w walks h in absurd (cc)
+
+  -- a pass that has seen a count of at least the capacity has as many entries in its front
+  pub full_seen : (capacity n : ℕ) (u w : View) → PassFacts fits u → Walks fits u w → n ≡ u.count_seen → capacity ≤ n → capacity ≤ length w.front
+  full_seen capacity n u w facts walks is reached =
+      let a : ℕ = length u.front in
+      let b : ℕ = length w.front in
+      let seen : u.count_seen ≤ a = facts.count_seen in
+      let grown : a ≤ b = starts_length u.front w.front walks.looks.steps.front in omega arith
+
+  -- a placed entry waits to be counted
+  pub some_uncounted : (k x : ℕ) (u p : View) → IsPlaced fits k x u p → 0 < length p.uncounted
+  some_uncounted k x u p placed =
+      let e = entry u.number k x in
+      let n : ℕ = length u.uncounted in
+      let m : ℕ = length p.uncounted in
+      let is : m ≡ n + 1 = ap (λ (es : List Entry). length es) placed.uncounted ∙ length-append u.uncounted (e ∷ []) in omega arith
 
   -- an entry was placed and then counted
-  pub placed_at : (g k x n m : ℕ) (v u p w : View) → CountSeen fits n v u → PutsNew fits g k x u p → CountRaised fits m p w → PlacesAt (fits v.tag) v w k x
-  placed_at g k x n m v u p w seen put raised =
-      let s = steps_then v u p seen.looks.steps put.steps in
-      let all = steps_then v p w s raised.looks.steps in
-      let number : u.number ≡ v.number = seen.looks.steps.number in
-      let lower : List Entry = put.newest.before in
-      let e : Entry = entry v.number k x in
-      let ends : lower ++ e ∷ [] ≡ p.front = ap (λ (i : ℕ). lower ++ entry i k x ∷ []) (sym number) ∙ put.newest.front in
-      let front : StartsWith v.front lower = starts_trans v.front u.front lower seen.looks.steps.front put.newest.old in
-      let last : StartsWithOwn w.numbers (lower ++ e ∷ []) w.front = subst (λ (y : List ℕ × List Entry). StartsWithOwn y.0 y.1 w.front) (λ t. (sym raised.looks.steps.numbers t, sym ends t)) raised.looks.mine in
-      record {
-        lower = lower;
-        point = record {
-          after = starts_trans v.front lower (lower ++ e ∷ []) front record { rest = e ∷ []; joins = refl };
-          before = record { rest = last.rest; joins = last.joins };
-          legal_here = subst (IsLegalHistory (fits v.tag)) (sym ends) (legal_for v p s put.told);
-          legal = legal_for v w all raised.told;
-          same = same_of v w all;
-        };
-        last = last;
-        front = front;
-        lacks = map_get lower k ∙ put.newest.lacks;
-        own = raised.looks.own ∙ (put.own ∙ (λ t. seen.looks.own t ++ entry (number t) k x ∷ []));
-      }
+  module _ (t : List ℕ) (g k x m : ℕ) (v u p w : View) (tag : v.tag ≡ t) (fit : fits t k x) (current : is_in g u.currents ≡ true) (seen : Walks fits v u) (put : PutsNew fits g k x u p) (raised : CountRaised fits m p w) where
+    steps : Steps v p
+    steps = steps_then v u p seen.looks.steps put.steps
 
-  -- the own entries of a joined pass
-  pub put_together : (v u w : View) → Told fits v → Told fits u → IsJoined fits v u w → PutTogether v u w
-  put_together v u w told_v told_u j =
-      let a = told_v.tally in
-      let b = told_u.tally in
-      let c = j.told.tally in
-      let d = j.placed in
-      let x : ℕ = length (own v) in
-      let y : ℕ = length (own u) in
-      let z : ℕ = length (own w) in
-      let m : ℕ = placed v in
-      let n : ℕ = placed u in
-      let o : ℕ = placed w in
-      let a' : x ≡ m = a in
-      let b' : y ≡ n = b in
-      let c' : z ≡ o = c in
-      let d' : o ≡ m + n = d in
-      let sum : z ≡ x + y = omega arith in
-      record {
-        first = own_stays v w.front j.mine;
-        second = own_stays u w.front j.theirs;
-        all = sum;
-        keeps = λ key x had. value_longer v.front w.front key x record { rest = j.mine.rest; joins = j.mine.joins } had;
-        keeps_theirs = λ key x had. value_longer u.front w.front key x record { rest = j.theirs.rest; joins = j.theirs.joins } had;
-      }
+    all : Steps v w
+    all = steps_then v p w steps raised.looks.steps
 
-lowest_last : (l : Layout) → lowest l ≡ l.last
-lowest_last l = one_generation l (lowest l) (lowest_within l)
+    pub fresh : IsPlaced fits k x u p
+    fresh = put.fresh (subst (λ (y : List ℕ). fits y k x) (sym (seen.looks.steps.tag ∙ tag)) fit) current
 
-pub is_new : (l : Layout) (capacity passes : ℕ) (mark : List ℕ) (t : CellsView) (p : PassView) → l.capacity ≡ capacity → l.passes ≡ passes → t.layout ≡ l → IsOf t p → p.knows ≡ first_view l mark → IsNew capacity passes mark t p
-is_new l capacity passes mark t p a b c of_table is =
+    pub placed_at : PlacesAt (fits t) v w k x
+    placed_at =
+        let number : u.number ≡ v.number = seen.looks.steps.number in
+        let lower : List Entry = fresh.newest.before in
+        let e : Entry = entry v.number k x in
+        let ends : lower ++ e ∷ [] ≡ p.front = ap (λ (i : ℕ). lower ++ entry i k x ∷ []) (sym number) ∙ fresh.newest.front in
+        let front : StartsWith v.front lower = starts_trans v.front u.front lower seen.looks.steps.front fresh.newest.old in
+        let last : StartsWithOwn w.numbers (lower ++ e ∷ []) w.front = subst (λ (y : List ℕ × List Entry). StartsWithOwn y.0 y.1 w.front) (λ i. (sym raised.looks.steps.numbers i, sym ends i)) raised.looks.mine in
+        let before : StartsWith (lower ++ e ∷ []) w.front = record { rest = last.rest; joins = last.joins } in
+        record {
+          lower = lower;
+          point = record {
+            after = starts_trans v.front lower (lower ++ e ∷ []) front record { rest = e ∷ []; joins = refl };
+            before = before;
+            legal_here = subst (IsLegalHistory (fits t)) (sym ends) (legal_for t p (steps.tag ∙ tag) put.facts);
+            legal = legal_for t w (all.tag ∙ tag) raised.facts;
+          };
+          last = last;
+          front = front;
+          lacks = map_get lower k ∙ fresh.newest.lacks;
+          stands = map_get w.front k ∙ value_longer (lower ++ e ∷ []) w.front k x before (value_new lower e fresh.newest.lacks);
+          own = raised.looks.own ∙ (fresh.own ∙ (λ i. seen.looks.own i ++ entry (number i) k x ∷ []));
+        }
+
+    -- no value was in the old front
+    pub placed_new : (y : ℕ) → value_in v.front k ≡ Some y → ⊥
+    placed_new y h =
+        let lower : List Entry = fresh.newest.before in
+        let front : StartsWith v.front lower = starts_trans v.front u.front lower seen.looks.steps.front fresh.newest.old in
+        let e : None ≡ Some y = sym fresh.newest.lacks ∙ value_longer v.front lower k y front h in absurd (cc)
+
+    pub placed_rest : v.uncounted ≡ [] → AtRest w
+    placed_rest none =
+        record {
+          claim = raised.claim ∙ put.claim;
+          uncounted = raised.uncounted ∙ ap rest_of (fresh.uncounted ∙ (λ i. (seen.uncounted ∙ none) i ++ entry u.number k x ∷ []));
+        }
+
+    pub placed_follow : (a b : PassView) → a.knows ≡ v → b.knows ≡ w → b.table ≡ a.table → Follows a b
+    placed_follow a b from to table =
+        subst (λ (y : View × View). Follows record { table = a.table; knows = y.0 } record { table = b.table; knows = y.1 }) (λ i. (sym from i, sym to i)) record {
+          table = table;
+          layout = all.layout;
+          tag = all.tag;
+          number = all.number;
+          numbers = all.numbers;
+          spare = all.spare;
+          front = all.front;
+          rest = λ r. placed_rest r.uncounted;
+        }
+
+-- the own entries of a joined pass
+pub put_together : (fits : List ℕ → ℕ → ℕ → Type 0) (v u w : View) → IsJoined fits v u w → PutTogether v u w
+put_together fits v u w j =
+    let a = j.joins in
     record {
-      capacity_is = ap (λ (x : Layout). x.capacity) c ∙ a;
-      passes_are = ap (λ (x : Layout). x.passes) c ∙ b;
-      of_table = of_table;
+      first = own_stays v w.front a.mine;
+      second = own_stays u w.front a.theirs;
+      all = a.all;
+      keeps = λ key x had. value_longer v.front w.front key x record { rest = a.mine.rest; joins = a.mine.joins } had;
+      keeps_theirs = λ key x had. value_longer u.front w.front key x record { rest = a.theirs.rest; joins = a.theirs.joins } had;
+    }
+
+pub is_new : (l : Layout) (capacity passes : ℕ) (mark : List ℕ) (t : CellsView) (p : PassView) → l.capacity ≡ capacity → l.passes ≡ passes → BeginsCells l mark t p → IsNew capacity passes mark t p
+is_new l capacity passes mark t p a b h =
+    let is = h.knows in
+    record {
+      capacity_is = ap (λ (x : Layout). x.capacity) h.layout ∙ a;
+      passes_are = ap (λ (x : Layout). x.passes) h.layout ∙ b;
+      tag = h.tag;
+      of_table = h.of_cells;
       rest = record { claim = ap (λ (x : View). x.claim) is; uncounted = ap (λ (x : View). x.uncounted) is };
       number = ap (λ (x : View). x.number) is;
       numbers = ap (λ (x : View). x.numbers) is;
       spare = ap (λ (x : View). x.spare) is ∙ ap (λ (n : ℕ). n - 1) b;
       front = ap (λ (x : View). x.front) is;
-      generation = ap (λ (x : View). x.generation) is ∙ (lowest_last l ∙ sym (ap (λ (x : Layout). x.last) c));
-      tag_is = ap (λ (x : View). x.tag) is;
+      generation = ap (λ (x : View). x.generation) is ∙ ap lowest (sym h.layout);
     }

@@ -10,5 +10,5 @@ mod answers;
 mod table;
 
 pub use answers::{Full, Kept, Shape};
-pub use map_cells::{Facts, Pass};
+pub use map_cells::{AnyPair, Facts, Pass};
 pub use table::Table;

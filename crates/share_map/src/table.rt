@@ -1,13 +1,16 @@
 //! The table and its calls.
 ghost use Rattle.std.specs.Prelude.{◌≡◌, ◌≢◌, ◌↔◌, ◌<◌, ◌≤◌, ℕ, Some, IfOk, IsTrue};
+ghost use Rattle.map_core.specs.declared.layout.TheConstants.{MOST_ENTRIES, MOST_PASSES};
 ghost use Rattle.map_core.specs.Sizes.{cells_of};
 ghost use Rattle.map_core.specs.History.{value_in};
 ghost use Rattle.map_core.specs.Machine.{IsWord};
-ghost use Rattle.map_core.specs.Calls.{FindsAt};
-ghost use Rattle.map_core.specs.Passes.{AtRest, Told};
-ghost use Rattle.map_cells.specs.Seen.{IsOf};
+ghost use Rattle.map_core.specs.Calls.{own, FindsAt};
+ghost use Rattle.map_core.specs.Passes.{AtRest, PassFacts};
+ghost use Rattle.map_cells.specs.Seen.{IsOf, Continues, Follows};
 ghost use Rattle.map_cells.specs.Passing.{IsSplit, IsJoined};
+ghost use Rattle.map_cells.specs.Walks.{Walks};
 ghost use Rattle.share_map.specs.Answers.{IsNew, Inserts, PutTogether};
+ghost use Rattle.share_map.specs.declared.answers.Kept.TheVariants.{Found};
 
 use crate::answers::{Full, Kept, Shape};
 use map_cells::{Cells, Facts, Layout, Pass, Put};
@@ -37,8 +40,8 @@ impl<F: Facts> Table<F> {
         passes: u32,
         facts: &F,
     ) -> Result<(Table<F>, Pass<F>), AllocError>
-        requires capacity { (1 ≤ capacity) × (capacity ≤ 4194304) }
-        requires passes { (1 ≤ passes) × (passes ≤ 128) }
+        requires capacity { (1 ≤ capacity) × (capacity ≤ MOST_ENTRIES) }
+        requires passes { (1 ≤ passes) × (passes ≤ MOST_PASSES) }
         ensures { IfOk result (λ r. IsNew capacity passes (F.tag facts.now) r.0 r.1) }
     {
         let layout = Layout::of(capacity, passes);
@@ -53,12 +56,13 @@ impl<F: Facts> Table<F> {
         requires key { IsWord key }
         ensures of { IsOf self.now pass.new }
         ensures rest { AtRest pass.new.knows }
-        ensures told { Told F.fits pass.new.knows }
-        ensures find { FindsAt (F.fits pass.old.knows.tag) pass.old.knows pass.new.knows key result }
+        ensures facts { PassFacts F.fits pass.new.knows }
+        ensures follows { Follows pass.old pass.new }
+        ensures find { FindsAt (F.fits self.now.tag) pass.old.knows pass.new.knows key result }
         // what was in the pass's front is found
         ensures kept { (v : ℕ) → value_in pass.old.knows.front key ≡ Some v → result ≡ Some v }
     {
-        pass.told();
+        pass.recall();
         let generation = self.cells.layout().last;
         self.cells.seek_from(pass, generation, key)
     }
@@ -69,23 +73,27 @@ impl<F: Facts> Table<F> {
         requires rest { AtRest pass.old.knows }
         requires key { IsWord key }
         requires value { IsWord value }
-        requires fits { F.fits pass.old.knows.tag key value }
+        requires fits { F.fits self.now.tag key value }
         ensures of { IsOf self.now pass.new }
         ensures rest { AtRest pass.new.knows }
-        ensures told { Told F.fits pass.new.knows }
-        ensures insert { Inserts (F.fits pass.old.knows.tag) self.now.layout.capacity key value pass.old.knows pass.new.knows result }
+        ensures facts { PassFacts F.fits pass.new.knows }
+        ensures follows { Follows pass.old pass.new }
+        ensures insert { Inserts (F.fits self.now.tag) self.now.layout.capacity key value
+            pass.old.knows pass.new.knows result }
+        // what was in the pass's front is met
+        ensures kept { (v : ℕ) → value_in pass.old.knows.front key ≡ Some v
+            → result ≡ Ok (Found v) }
     {
-        pass.told();
         let layout = self.cells.layout();
-        let generation = layout.last;
+        let last = layout.last;
         let capacity = layout.capacity;
-        if self.cells.counted(pass) >= capacity {
-            return match self.cells.seek_from(pass, generation, key) {
+        if self.last_count(pass) >= capacity {
+            return match self.cells.seek_from(pass, last, key) {
                 Some(found) => Ok(Kept::Found(found)),
                 None => Err(Full),
             };
         }
-        match self.cells.put_from(pass, generation, key, value) {
+        match self.cells.put_from(pass, last, key, value) {
             Put::Placed => {
                 self.cells.count(pass);
                 Ok(Kept::Placed)
@@ -95,6 +103,21 @@ impl<F: Facts> Table<F> {
         }
     }
 
+    // The greatest count that the pass has seen. A pass that has seen none loads it, so that it finds a full table full.
+    fn last_count(&self, pass: &mut Pass<F>) -> u64
+        requires { IsOf self.now pass.old }
+        ensures of { IsOf self.now pass.new }
+        ensures walk { Walks F.fits pass.old.knows pass.new.knows }
+        ensures seen { result ≡ pass.new.knows.count_seen }
+    {
+        pass.recall();
+        let seen = pass.count_seen();
+        if seen > 0 {
+            return seen;
+        }
+        self.cells.counted(pass)
+    }
+
     /// Splits off a new pass, which knows as much. It takes one of the spare numbers.
     pub fn split(&self, pass: &mut Pass<F>) -> Pass<F>
         requires of { IsOf self.now pass.old }
@@ -102,6 +125,7 @@ impl<F: Facts> Table<F> {
         requires rest { AtRest pass.old.knows }
         ensures of { IsOf self.now pass.new × IsOf self.now result }
         ensures rest { AtRest pass.new.knows × AtRest result.knows }
+        ensures continues { Continues pass.old pass.new }
         ensures passes { IsSplit F.fits pass.old.knows pass.new.knows result.knows }
     {
         self.cells.split(pass)
@@ -115,23 +139,28 @@ impl<F: Facts> Table<F> {
         requires rest { AtRest into.old.knows }
         requires quiet { AtRest from.knows }
         ensures of { IsOf self.now into.new }
+        ensures rest { AtRest into.new.knows }
+        ensures continues { Continues into.old into.new }
         ensures passes { IsJoined F.fits into.old.knows from.knows into.new.knows }
         ensures own { PutTogether into.old.knows from.knows into.new.knows }
     {
-        into.told();
-        from.told();
         self.cells.join(into, from)
     }
 
     /// The generation that the table is in. For now that is its last from the start.
     pub fn shape(&self, pass: &mut Pass<F>) -> Shape
-        requires { IsOf self.now pass.old }
-        ensures same { pass.new ≡ pass.old }
+        requires of { IsOf self.now pass.old }
+        requires rest { AtRest pass.old.knows }
+        ensures of { IsOf self.now pass.new }
+        ensures rest { AtRest pass.new.knows }
+        ensures facts { PassFacts F.fits pass.new.knows }
+        ensures follows { Follows pass.old pass.new }
+        ensures own { own pass.new.knows ≡ own pass.old.knows }
         ensures risen { pass.old.knows.generation ≤ result.generation }
         ensures cells { result.cells ≡ cells_of result.generation }
         ensures last { IsTrue result.last ↔ (result.generation ≡ self.now.layout.last) }
     {
-        pass.told();
+        pass.recall();
         let layout = self.cells.layout();
         let generation = layout.last;
         Shape {

@@ -6,21 +6,9 @@ ghost use Rattle.map_cells.specs.Seen.{IsOf};
 
 use crate::keys::{key_of, value_of};
 use crate::tally::Tally;
-use share_map::{Facts, Pass, Table};
+use share_map::{AnyPair, Pass, Table};
 use std::alloc::{AllocError, Global};
 use std::ops::Range;
-
-/// Every pair of a key and a value fits.
-#[derive(Clone, Copy)]
-pub(crate) struct AnyPair;
-
-impl Facts for AnyPair {
-    ghost use Rattle.std.specs.Prelude.{[]};
-
-    ghost tag = { λ _. [] };
-
-    ghost fits = { λ _ _ _. Unit {0} };
-}
 
 /// One thread's pass at rest, and what its calls answered.
 #[derive(Drop)]

@@ -1,9 +1,11 @@
-//! One load: its words, its three phases and what it prints.
+//! One load: its words, its phases and what it prints.
 ghost use Rattle.std.specs.Prelude.{◌^◌, ◌<◌, ◌≤◌, IfSome};
+ghost use Rattle.map_core.specs.declared.layout.TheConstants.{MOST_ENTRIES};
 
-use crate::callers::{AnyPair, Caller, callers};
+use crate::callers::{Caller, callers};
 use crate::tally::Tally;
-use share_map::Table;
+use map_core::MOST_ENTRIES;
+use share_map::{AnyPair, Table};
 use std::alloc::Global;
 use std::ops::Range;
 use std::rt::Clock;
@@ -13,7 +15,14 @@ use std::{io, thread};
 
 const MOST_THREADS: u64 = 128;
 
-const MOST_KEYS: u64 = 4194304;
+/// Which keys the callers insert: each its own part, or each all of them. Or half of the callers look keys up while the
+/// others insert.
+#[derive(Clone, Copy)]
+enum Mode {
+    Own,
+    Same,
+    Mixed,
+}
 
 /// What the words ask for.
 #[derive(Clone, Copy)]
@@ -22,11 +31,11 @@ pub(crate) struct Load {
     capacity: u64,
     keys: u64,
     rounds: u64,
-    same: bool,
+    mode: Mode,
     times: bool,
     ghost threads_fit: { (1 ≤ threads) × (threads ≤ 128) },
-    ghost capacity_fits: { (1 ≤ capacity) × (capacity ≤ 4194304) },
-    ghost keys_fit: { keys ≤ 4194304 },
+    ghost capacity_fits: { (1 ≤ capacity) × (capacity ≤ MOST_ENTRIES) },
+    ghost keys_fit: { keys ≤ MOST_ENTRIES },
 }
 
 impl Load {
@@ -34,12 +43,13 @@ impl Load {
     pub fn of_words(words: &[String]) -> Option<Load> {
         let mut words = words.iter();
         let threads = number(words.next()?.as_str(), 1, MOST_THREADS)?;
-        let capacity = number(words.next()?.as_str(), 1, MOST_KEYS)?;
-        let keys = number(words.next()?.as_str(), 0, MOST_KEYS)?;
+        let capacity = number(words.next()?.as_str(), 1, MOST_ENTRIES)?;
+        let keys = number(words.next()?.as_str(), 0, MOST_ENTRIES)?;
         let rounds = number(words.next()?.as_str(), 0, u64::MAX)?;
-        let same = match words.next()?.as_str() {
-            "own" => false,
-            "same" => true,
+        let mode = match words.next()?.as_str() {
+            "own" => Mode::Own,
+            "same" => Mode::Same,
+            "mixed" => Mode::Mixed,
             _ => return None,
         };
         let times = match words.next() {
@@ -51,7 +61,7 @@ impl Load {
             capacity,
             keys,
             rounds,
-            same,
+            mode,
             times,
         })
     }
@@ -63,12 +73,38 @@ impl Load {
         let callers = callers(alloc, &table, pass, self.threads)?;
         let (callers, _) = self.find(rt, callers, 0, 1)?;
         let (callers, inserts) = self.insert(rt, callers)?;
+        match self.mode {
+            Mode::Mixed => {
+                let (callers, mixed) = self.mix(rt, callers)?;
+                print_tally(rt, sum(callers.as_slice()))?;
+                self.print_time(rt, "mixed", mixed)
+            }
+            _ => self.run_alike(rt, callers, inserts),
+        }
+    }
+
+    /// The phases in which all callers do alike, behind the inserts: the same inserts again, and finds.
+    fn run_alike<'t, R: Threads + Clock + Print + Sync>(
+        &self,
+        rt: &R,
+        callers: Vec<Caller<'t>>,
+        inserts: Duration,
+    ) -> io::Result<()> {
+        let (callers, again) = self.insert(rt, callers)?;
         let (callers, hits) = self.find(rt, callers, 0, self.rounds)?;
         let (callers, misses) = self.find(rt, callers, self.keys, self.rounds)?;
         print_tally(rt, sum(callers.as_slice()))?;
+        self.print_time(rt, "insert", inserts)?;
+        self.print_time(rt, "again", again)?;
+        self.print_time(rt, "present", hits)?;
+        self.print_time(rt, "absent", misses)
+    }
+
+    /// The time of a phase, where times are asked for.
+    fn print_time<R: Print>(&self, rt: &R, phase: &str, time: Duration) -> io::Result<()> {
         if self.times {
-            let (inserts, hits, misses) = (inserts.as_nanos(), hits.as_nanos(), misses.as_nanos());
-            println!(rt; "insert {inserts} ns\npresent {hits} ns\nabsent {misses} ns")?;
+            let nanoseconds = time.as_nanos();
+            println!(rt; "{phase} {nanoseconds} ns")?;
         }
         Ok(())
     }
@@ -86,7 +122,33 @@ impl Load {
     }
 
     fn insert_part<'t>(&self, caller: Caller<'t>) -> Caller<'t> {
-        let part = self.part(caller.index);
+        let part = match self.mode {
+            Mode::Own => share(0, self.keys, caller.index, self.threads),
+            Mode::Same => share(0, self.keys, 0, 1),
+            Mode::Mixed => share(0, self.keys / 2, caller.index, self.threads),
+        };
+        caller.insert_all(part)
+    }
+
+    /// The callers of even index look the first half of the keys up, while the others insert the second half.
+    fn mix<'t, R: Threads + Clock + Sync>(
+        &self,
+        rt: &R,
+        callers: Vec<Caller<'t>>,
+    ) -> io::Result<(Vec<Caller<'t>>, Duration)> {
+        let load = *self;
+        let start = Instant::now(rt)?;
+        let callers = thread::map_vec(rt, callers, &|caller| load.mix_part(caller))?;
+        Ok((callers, start.elapsed(rt)?))
+    }
+
+    fn mix_part<'t>(&self, caller: Caller<'t>) -> Caller<'t> {
+        let half = self.keys / 2;
+        if caller.index % 2 == 0 {
+            return caller.find_all(0..half, self.rounds);
+        }
+        let inserters = (self.threads / 2).max(1);
+        let part = share(half, self.keys - half, caller.index / 2, inserters);
         caller.insert_all(part)
     }
 
@@ -105,17 +167,17 @@ impl Load {
         let callers = thread::map_vec(rt, callers, &|caller| caller.find_all(first..end, rounds))?;
         Ok((callers, start.elapsed(rt)?))
     }
+}
 
-    /// The numbers of the keys that the caller at this index inserts.
-    fn part(&self, index: u64) -> Range<u64>
-        ensures { result.end < 2 ^ 32 }
-    {
-        if self.same {
-            return 0..self.keys;
-        }
-        let index = index.min(self.threads);
-        self.keys * index / self.threads..self.keys * (index + 1) / self.threads
-    }
+/// One of so many parts of the numbers from the first on.
+fn share(first: u64, count: u64, index: u64, parts: u64) -> Range<u64>
+    requires first { first ≤ 4194304 }
+    requires count { count ≤ 4194304 }
+    requires parts { (1 ≤ parts) × (parts ≤ 128) }
+    ensures { result.end < 2 ^ 32 }
+{
+    let index = index.min(parts);
+    first + count * index / parts..first + count * (index + 1) / parts
 }
 
 /// The number that a word spells, if it lies between these.

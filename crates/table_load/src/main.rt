@@ -1,10 +1,11 @@
 //! Loads the shared table from several threads, and prints what its calls answered.
 //!
-//! The words are `THREADS CAPACITY KEYS ROUNDS own|same`, and perhaps `times`. A table for CAPACITY entries gets KEYS
-//! keys: under `own` each thread inserts a part of them, under `same` each inserts them all. Then each thread looks
-//! each of them up ROUNDS times, and after that as many keys that the table hasn't. What is printed is the same
-//! whatever the threads' order, but for the nanoseconds of the three phases, which `times` adds. Other words give
-//! status 2.
+//! The words are `THREADS CAPACITY KEYS ROUNDS own|same|mixed`, and perhaps `times`. A table for CAPACITY entries gets
+//! KEYS keys: under `own` each thread inserts a part of them, under `same` each inserts them all. Then each inserts the
+//! same once more, looks each key up ROUNDS times, and after that as many keys that the table hasn't. Under `mixed` half
+//! of the keys are inserted first. Then every other thread looks these up ROUNDS times, while the others insert the rest.
+//! What is printed is the same whatever the threads' order, but for the nanoseconds of the phases, which `times` adds.
+//! Other words give status 2.
 #![tactic(auto)]
 
 mod callers;

@@ -35,3 +35,14 @@ pub record Owes (c : CellsView) (p : PassView) : Type 0 where
   pub of_table : IsOf c p
   pub claim : p.knows.claim ≡ None
   pub one : length p.knows.uncounted ≡ 1
+
+-- the pass has the number and the spare ones that it had
+pub record SameNumbers (p q : PassView) : Type 0 where
+  pub number : q.knows.number ≡ p.knows.number
+  pub spare : q.knows.spare ≡ p.knows.spare
+
+-- new cells for two passes, and the first of them
+pub record IsSmall (c : CellsView) (p : PassView) : Type 0 where
+  pub idle : Idle c p
+  pub number : p.knows.number ≡ 0
+  pub spare : p.knows.spare ≡ 1

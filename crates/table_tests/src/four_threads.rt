@@ -1,11 +1,9 @@
 //! Four threads that insert overlapping keys.
-ghost use Rattle.std.specs.Prelude.{◌<◌, ◌≤◌};
-ghost use Rattle.map_core.specs.Passes.{AtRest};
-ghost use Rattle.map_cells.specs.Seen.{IsOf};
+ghost use Rattle.std.specs.Prelude.{◌≢◌, ◌<◌, ◌≤◌};
+ghost use Rattle.table_tests.specs.States.{Idle, SameNumbers};
 
-use crate::any_pair::AnyPair;
 use crate::start::meet;
-use share_map::{Full, Kept, Pass, Table};
+use share_map::{AnyPair, Full, Kept, Pass, Table};
 use std::process::Abort;
 use std::sync::atomic::AtomicU64;
 use std::test::Fail;
@@ -14,7 +12,7 @@ use std::thread::{Threads, join};
 // How many keys a worker inserts.
 const EACH: usize = 70;
 
-/// What a worker was told: of each of its keys the value in the table.
+/// What a worker learned: of each of its keys the value in the table.
 #[derive(Drop)]
 struct Answers {
     pass: Pass<AnyPair>,
@@ -50,17 +48,16 @@ fn offer_of(worker: u64, key: u64) -> u64
 }
 
 // Inserts the keys of a worker once all four threads run.
-fn offered(
+fn offer_all(
     table: &Table<AnyPair>,
     arrived: &AtomicU64,
     mut pass: Pass<AnyPair>,
     worker: u64,
 ) -> Answers
-    requires of { IsOf table.now pass }
-    requires rest { AtRest pass.knows }
+    requires idle { Idle table.now pass }
     requires worker { worker < 4 }
-    ensures of { IsOf table.now result.pass }
-    ensures rest { AtRest result.pass.knows }
+    ensures idle { Idle table.now result.pass }
+    ensures numbers { SameNumbers pass result.pass }
 {
     let first = first_number(worker);
     let mut values = [0; EACH];
@@ -78,7 +75,7 @@ fn offered(
 }
 
 // Two workers in two threads: this one and the next.
-fn two_workers<R: Threads>(
+fn run_two_workers<R: Threads>(
     rt: &R,
     table: &Table<AnyPair>,
     arrived: &AtomicU64,
@@ -86,27 +83,27 @@ fn two_workers<R: Threads>(
     other: Pass<AnyPair>,
     worker: u64,
 ) -> (Answers, Answers)
-    requires one { IsOf table.now one × AtRest one.knows }
-    requires other { IsOf table.now other × AtRest other.knows }
+    requires one { Idle table.now one }
+    requires other { Idle table.now other }
     requires worker { worker < 3 }
-    ensures first { IsOf table.now result.0.pass × AtRest result.0.pass.knows }
-    ensures second { IsOf table.now result.1.pass × AtRest result.1.pass.knows }
+    ensures first { Idle table.now result.0.pass × SameNumbers one result.0.pass }
+    ensures second { Idle table.now result.1.pass × SameNumbers other result.1.pass }
 {
     join(
         rt,
         move || -> Answers
-            requires { IsOf table.now one × AtRest one.knows × (worker < 3) }
-            ensures { IsOf table.entry.now result.pass × AtRest result.pass.knows }
-        { offered(table, arrived, one, worker) },
+            requires { Idle table.now one × (worker < 3) }
+            ensures { Idle table.entry.now result.pass × SameNumbers one result.pass }
+        { offer_all(table, arrived, one, worker) },
         move || -> Answers
-            requires { IsOf table.now other × AtRest other.knows × (worker < 3) }
-            ensures { IsOf table.entry.now result.pass × AtRest result.pass.knows }
-        { offered(table, arrived, other, worker + 1) },
+            requires { Idle table.now other × (worker < 3) }
+            ensures { Idle table.entry.now result.pass × SameNumbers other result.pass }
+        { offer_all(table, arrived, other, worker + 1) },
     )
 }
 
 // Four workers in four threads.
-fn four_workers<R: Threads + Sync>(
+fn run_four_workers<R: Threads + Sync>(
     rt: &R,
     table: &Table<AnyPair>,
     arrived: &AtomicU64,
@@ -115,45 +112,38 @@ fn four_workers<R: Threads + Sync>(
     c: Pass<AnyPair>,
     d: Pass<AnyPair>,
 ) -> ((Answers, Answers), (Answers, Answers))
-    requires a { IsOf table.now a × AtRest a.knows }
-    requires b { IsOf table.now b × AtRest b.knows }
-    requires c { IsOf table.now c × AtRest c.knows }
-    requires d { IsOf table.now d × AtRest d.knows }
-    ensures first { IsOf table.now result.0.0.pass × AtRest result.0.0.pass.knows }
-    ensures second { IsOf table.now result.0.1.pass × AtRest result.0.1.pass.knows }
-    ensures third { IsOf table.now result.1.0.pass × AtRest result.1.0.pass.knows }
-    ensures fourth { IsOf table.now result.1.1.pass × AtRest result.1.1.pass.knows }
+    requires a { Idle table.now a }
+    requires b { Idle table.now b }
+    requires c { Idle table.now c }
+    requires d { Idle table.now d }
+    ensures first { Idle table.now result.0.0.pass × SameNumbers a result.0.0.pass }
+    ensures second { Idle table.now result.0.1.pass × SameNumbers b result.0.1.pass }
+    ensures third { Idle table.now result.1.0.pass × SameNumbers c result.1.0.pass }
+    ensures fourth { Idle table.now result.1.1.pass × SameNumbers d result.1.1.pass }
 {
     join(
         rt,
         move || -> (Answers, Answers)
-            requires { IsOf table.now a × AtRest a.knows × IsOf table.now b × AtRest b.knows }
-            ensures { IsOf table.entry.now result.0.pass × AtRest result.0.pass.knows × IsOf table.entry.now result.1.pass × AtRest result.1.pass.knows }
-        { two_workers(rt, table, arrived, a, b, 0) },
+            requires { Idle table.now a × Idle table.now b }
+            ensures { Idle table.entry.now result.0.pass × SameNumbers a result.0.pass
+                × Idle table.entry.now result.1.pass × SameNumbers b result.1.pass }
+        { run_two_workers(rt, table, arrived, a, b, 0) },
         move || -> (Answers, Answers)
-            requires { IsOf table.now c × AtRest c.knows × IsOf table.now d × AtRest d.knows }
-            ensures { IsOf table.entry.now result.0.pass × AtRest result.0.pass.knows × IsOf table.entry.now result.1.pass × AtRest result.1.pass.knows }
-        { two_workers(rt, table, arrived, c, d, 2) },
+            requires { Idle table.now c × Idle table.now d }
+            ensures { Idle table.entry.now result.0.pass × SameNumbers c result.0.pass
+                × Idle table.entry.now result.1.pass × SameNumbers d result.1.pass }
+        { run_two_workers(rt, table, arrived, c, d, 2) },
     )
 }
 
 // Takes the pass of a worker into the first one. The values stay.
-fn gathered<R: Abort>(
-    rt: &R,
-    table: &Table<AnyPair>,
-    into: &mut Pass<AnyPair>,
-    answers: Answers,
-) -> [u64; EACH]
-    requires of { IsOf table.now into.old }
-    requires rest { AtRest into.old.knows }
-    requires also { IsOf table.now answers.pass }
-    requires quiet { AtRest answers.pass.knows }
-    ensures of { IsOf table.now into.new }
-    ensures rest { AtRest into.new.knows }
+fn take_in(table: &Table<AnyPair>, into: &mut Pass<AnyPair>, answers: Answers) -> [u64; EACH]
+    requires idle { Idle table.now into.old }
+    requires also { Idle table.now answers.pass }
+    requires number { answers.pass.knows.number ≢ 0 }
+    ensures idle { Idle table.now into.new }
 {
     let Answers { pass, values } = answers;
-    let number = pass.number();
-    assert!(rt; number != 0);
     table.join(into, pass);
     values
 }
@@ -173,19 +163,17 @@ fn is_offer(number: u64, value: u64) -> bool
     false
 }
 
-// The value of each key of the worker is one that was offered for it, and the worker was told it.
-fn agrees<R: Abort>(
+// The value of each key of the worker is one that was offer_all for it, and the worker learned it.
+fn check_values<R: Abort>(
     rt: &R,
     table: &Table<AnyPair>,
     pass: &mut Pass<AnyPair>,
     worker: u64,
     values: &[u64; EACH],
 )
-    requires of { IsOf table.now pass.old }
-    requires rest { AtRest pass.old.knows }
+    requires idle { Idle table.now pass.old }
     requires worker { worker < 4 }
-    ensures of { IsOf table.now pass.new }
-    ensures rest { AtRest pass.new.knows }
+    ensures idle { Idle table.now pass.new }
 {
     let first = first_number(worker);
     for i in 0..EACH {
@@ -200,27 +188,26 @@ fn agrees<R: Abort>(
 fn four_threads_agree_on_the_value_of_each_key(rt: HostRuntime) -> Result<(), Fail> {
     for _ in 0..500 {
         let (table, mut a) = Table::new(rt.alloc(), 100, 4, &AnyPair)?;
-        assert!(rt; a.spare() == 3);
         let b = table.split(&mut a);
-        assert!(rt; a.spare() == 2);
         let c = table.split(&mut a);
-        assert!(rt; a.spare() == 1);
         let d = table.split(&mut a);
         let arrived = AtomicU64::new(0);
-        let ((first, second), (third, fourth)) = four_workers(&rt, &table, &arrived, a, b, c, d);
+        let ((first, second), (third, fourth)) = run_four_workers(
+            &rt, &table, &arrived, a, b, c, d,
+        );
         let Answers {
             pass: mut all,
             values,
         } = first;
-        let of_second = gathered(&rt, &table, &mut all, second);
-        let of_third = gathered(&rt, &table, &mut all, third);
-        let of_fourth = gathered(&rt, &table, &mut all, fourth);
+        let of_second = take_in(&table, &mut all, second);
+        let of_third = take_in(&table, &mut all, third);
+        let of_fourth = take_in(&table, &mut all, fourth);
         assert_eq!(rt; all.number(), 0);
         assert_eq!(rt; all.placed(), 100);
-        agrees(&rt, &table, &mut all, 0, &values);
-        agrees(&rt, &table, &mut all, 1, &of_second);
-        agrees(&rt, &table, &mut all, 2, &of_third);
-        agrees(&rt, &table, &mut all, 3, &of_fourth);
+        check_values(&rt, &table, &mut all, 0, &values);
+        check_values(&rt, &table, &mut all, 1, &of_second);
+        check_values(&rt, &table, &mut all, 2, &of_third);
+        check_values(&rt, &table, &mut all, 3, &of_fourth);
     }
     Ok(())
 }

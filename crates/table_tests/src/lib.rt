@@ -7,9 +7,7 @@
 #![tactic(auto)]
 
 #[cfg(test)]
-mod any_pair;
-#[cfg(test)]
-mod calls;
+mod chains;
 #[cfg(test)]
 mod four_threads;
 #[cfg(test)]
@@ -21,6 +19,10 @@ mod shared_cells;
 #[cfg(test)]
 mod start;
 #[cfg(test)]
-mod step_calls;
+mod step_helpers;
 #[cfg(test)]
 mod steps;
+#[cfg(test)]
+mod sum_pairs;
+#[cfg(test)]
+mod table_calls;

@@ -1,10 +1,8 @@
 //! A random list of calls, beside a plain map that keeps the first value of each key.
 ghost use Rattle.std.specs.Prelude.{◌<◌, ◌≤◌};
-ghost use Rattle.map_core.specs.Passes.{AtRest};
-ghost use Rattle.map_cells.specs.Seen.{IsOf};
+ghost use Rattle.table_tests.specs.States.{Idle};
 
-use crate::any_pair::AnyPair;
-use share_map::{Full, Kept, Pass, Table};
+use share_map::{AnyPair, Full, Kept, Pass, Table};
 use std::alloc::{AllocError, Global};
 use std::process::Abort;
 use std::test::Fail;
@@ -57,14 +55,14 @@ struct Came {
 }
 
 // Makes 2000 calls of the table and of the plain map, whose answers are the same.
-fn calls_agree<R: Abort>(
+fn compare_calls<R: Abort>(
     rt: &R,
     alloc: Global,
     table: &Table<AnyPair>,
     pass: &mut Pass<AnyPair>,
 ) -> Result<Came, AllocError>
-    requires of { IsOf table.now pass.old }
-    requires rest { AtRest pass.old.knows }
+    requires { Idle table.now pass.old }
+    ensures { Idle table.now pass.new }
 {
     let mut pairs = Vec::new(alloc);
     let mut came = Came {
@@ -96,7 +94,7 @@ fn calls_agree<R: Abort>(
 #[test]
 fn a_random_list_of_calls_answers_as_a_plain_map(rt: HostRuntime) -> Result<(), Fail> {
     let (table, mut pass) = Table::new(rt.alloc(), CAPACITY, 1, &AnyPair)?;
-    let came = calls_agree(&rt, rt.alloc(), &table, &mut pass)?;
+    let came = compare_calls(&rt, rt.alloc(), &table, &mut pass)?;
     assert!(rt;
         came.met && came.full && came.found && came.absent,
         "every answer came"

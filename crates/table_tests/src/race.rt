@@ -1,17 +1,17 @@
 //! Two passes in two threads that claim the same cells for the same keys and publish different values in them.
 //!
-//! Both threads borrow the cells, and each owns its pass: `thread::join` takes such closures only where `Cells` is
+//! Both threads borrow the cells, and each owns its pass: `thread::join` take_cell such closures only where `Cells` is
 //! `Sync` and `Pass` is `Send`.
 ghost use Rattle.std.specs.Prelude.{◌≡◌, ◌≤◌, ◌<◌, IfOk, IsTrue, false};
 ghost use Rattle.map_core.specs.Machine.{IsWord};
-ghost use Rattle.table_tests.specs.States.{IsHome, Idle, SawKey};
+ghost use Rattle.table_tests.specs.States.{IsHome, Idle, SawKey, SameNumbers};
 
-use crate::any_pair::AnyPair;
 use crate::start::meet;
-use crate::steps::{
-    claimed, count_in, home_cell, parted, published, small_cells, sought, taken_in, tallied,
+use crate::step_helpers::{
+    claim_cell, count_entry, home_cell, join_passes, load_count, publish_value, seek_key,
+    small_cells, split_pass,
 };
-use map_cells::{Cell, Cells, Pass};
+use map_cells::{AnyPair, Cell, Cells, Pass};
 use std::process::Abort;
 use std::sync::atomic::AtomicU64;
 use std::test::Fail;
@@ -20,46 +20,48 @@ use std::thread::{Threads, join};
 // The keys 1 to 50 have 50 different homes among 128 cells.
 const KEYS: usize = 50;
 
-/// What a thread was told: of each key the value that stands, its own or the other's.
+/// What a thread was told: of each key the value that put_at_home, its own or the other's.
 #[derive(Drop)]
 struct Answers {
     pass: Pass<AnyPair>,
     values: [u64; KEYS],
 }
 
-// Whether the key stands in its home cell afterwards.
-fn takes(cells: &Cells<AnyPair>, pass: &mut Pass<AnyPair>, cell: Cell, key: u64) -> bool
+// Whether the key put_at_home in its home cell afterwards.
+fn take_cell(cells: &Cells<AnyPair>, pass: &mut Pass<AnyPair>, cell: Cell, key: u64) -> bool
     requires idle { Idle cells.now pass.old }
     requires home { IsHome cells.now.layout key cell }
     requires key { IsWord key }
     ensures there { IsTrue result → SawKey cells.now pass.new cell key }
     ensures other { result ≡ false → Idle cells.now pass.new }
+    ensures numbers { SameNumbers pass.old pass.new }
 {
-    let before = claimed(cells, pass, cell, key);
+    let before = claim_cell(cells, pass, cell, key);
     before == 0 || before == key
 }
 
-// The value of the key in its home cell, or 0 where another key stands there.
-fn stands(cells: &Cells<AnyPair>, pass: &mut Pass<AnyPair>, key: u64, value: u64) -> u64
+// The value of the key in its home cell, or 0 where another key put_at_home there.
+fn put_at_home(cells: &Cells<AnyPair>, pass: &mut Pass<AnyPair>, key: u64, value: u64) -> u64
     requires idle { Idle cells.now pass.old }
     requires key { IsWord key }
     requires value { IsWord value }
-    ensures { Idle cells.now pass.new }
+    ensures idle { Idle cells.now pass.new }
+    ensures numbers { SameNumbers pass.old pass.new }
 {
     let cell = home_cell(cells, key);
-    if !takes(cells, pass, cell, key) {
+    if !take_cell(cells, pass, cell, key) {
         return 0;
     }
-    let before = published(cells, pass, cell, key, value);
+    let before = publish_value(cells, pass, cell, key, value);
     if before != 0 {
         return before;
     }
-    tallied(cells, pass);
+    count_entry(cells, pass);
     value
 }
 
 // Offers offer + key for each key, once both threads run.
-fn offered(
+fn offer_all(
     cells: &Cells<AnyPair>,
     arrived: &AtomicU64,
     mut pass: Pass<AnyPair>,
@@ -67,18 +69,19 @@ fn offered(
 ) -> Answers
     requires idle { Idle cells.now pass }
     requires offer { offer ≤ 2000 }
-    ensures { Idle cells.now result.pass }
+    ensures idle { Idle cells.now result.pass }
+    ensures numbers { SameNumbers pass result.pass }
 {
     let mut values = [0; KEYS];
     meet(arrived, 2);
     for i in 0..KEYS {
         let key = i as u64 + 1;
-        values[i] = stands(cells, &mut pass, key, offer + key);
+        values[i] = put_at_home(cells, &mut pass, key, offer + key);
     }
     Answers { pass, values }
 }
 
-fn raced<R: Threads>(
+fn race_both<R: Threads>(
     rt: &R,
     cells: &Cells<AnyPair>,
     arrived: &AtomicU64,
@@ -87,24 +90,24 @@ fn raced<R: Threads>(
 ) -> (Answers, Answers)
     requires one { Idle cells.now one }
     requires other { Idle cells.now other }
-    ensures first { Idle cells.now result.0.pass }
-    ensures second { Idle cells.now result.1.pass }
+    ensures first { Idle cells.now result.0.pass × SameNumbers one result.0.pass }
+    ensures second { Idle cells.now result.1.pass × SameNumbers other result.1.pass }
 {
     join(
         rt,
         move || -> Answers
             requires { Idle cells.now one }
-            ensures { Idle cells.entry.now result.pass }
-        { offered(cells, arrived, one, 1000) },
+            ensures { Idle cells.entry.now result.pass × SameNumbers one result.pass }
+        { offer_all(cells, arrived, one, 1000) },
         move || -> Answers
             requires { Idle cells.now other }
-            ensures { Idle cells.entry.now result.pass }
-        { offered(cells, arrived, other, 2000) },
+            ensures { Idle cells.entry.now result.pass × SameNumbers other result.pass }
+        { offer_all(cells, arrived, other, 2000) },
     )
 }
 
-// Both threads were told the value that each key has now, and one of them offered it.
-fn agreed<R: Abort>(
+// Both threads learned the value that each key has now, and one of them offer_all it.
+fn check_agreement<R: Abort>(
     rt: &R,
     cells: &Cells<AnyPair>,
     pass: &mut Pass<AnyPair>,
@@ -117,7 +120,7 @@ fn agreed<R: Abort>(
         let key = i as u64 + 1;
         assert!(rt; ours[i] == 1000 + key || ours[i] == 2000 + key, "key {key}");
         assert_eq!(rt; theirs[i], ours[i], "key {key}");
-        assert_eq!(rt; sought(cells, pass, key), Some(ours[i]), "key {key}");
+        assert_eq!(rt; seek_key(cells, pass, key), Some(ours[i]), "key {key}");
     }
 }
 
@@ -125,10 +128,9 @@ fn agreed<R: Abort>(
 fn two_threads_agree_on_the_value_of_each_key(rt: HostRuntime) -> Result<(), Fail> {
     for _ in 0..500 {
         let (cells, mut a) = small_cells(rt.alloc())?;
-        assert!(rt; a.spare() == 1);
-        let b = parted(&cells, &mut a);
+        let b = split_pass(&cells, &mut a);
         let arrived = AtomicU64::new(0);
-        let (first, second) = raced(&rt, &cells, &arrived, a, b);
+        let (first, second) = race_both(&rt, &cells, &arrived, a, b);
         let Answers {
             pass: mut a,
             values: ours,
@@ -137,15 +139,13 @@ fn two_threads_agree_on_the_value_of_each_key(rt: HostRuntime) -> Result<(), Fai
             pass: b,
             values: theirs,
         } = second;
-        let number = b.number();
-        assert_eq!(rt; number, 1);
         let placed = b.placed();
         assert!(rt; placed <= 50);
         assert_eq!(rt; a.placed(), 50 - placed);
-        taken_in(&cells, &mut a, b);
+        join_passes(&cells, &mut a, b);
         assert_eq!(rt; a.placed(), 50);
-        assert_eq!(rt; count_in(&cells, &mut a), 50);
-        agreed(&rt, &cells, &mut a, &ours, &theirs);
+        assert_eq!(rt; load_count(&cells, &mut a), 50);
+        check_agreement(&rt, &cells, &mut a, &ours, &theirs);
     }
     Ok(())
 }

@@ -1,11 +1,9 @@
 //! Two threads that insert different keys whose walks begin in the same cells.
 ghost use Rattle.std.specs.Prelude.{◌≤◌};
-ghost use Rattle.map_core.specs.Passes.{AtRest};
-ghost use Rattle.map_cells.specs.Seen.{IsOf};
+ghost use Rattle.table_tests.specs.States.{Idle, SameNumbers};
 
-use crate::any_pair::AnyPair;
 use crate::start::meet;
-use share_map::{Pass, Table};
+use share_map::{AnyPair, Pass, Table};
 use std::process::Abort;
 use std::sync::atomic::AtomicU64;
 use std::test::Fail;
@@ -26,17 +24,16 @@ fn key_of(cell: u64, side: u64) -> u64
 }
 
 // Inserts the keys of one side, each with one more than itself, once both threads run.
-fn inserted(
+fn insert_side(
     table: &Table<AnyPair>,
     arrived: &AtomicU64,
     mut pass: Pass<AnyPair>,
     side: u64,
 ) -> Pass<AnyPair>
-    requires of { IsOf table.now pass }
-    requires rest { AtRest pass.knows }
+    requires idle { Idle table.now pass }
     requires side { side ≤ 1 }
-    ensures of { IsOf table.now result }
-    ensures rest { AtRest result.knows }
+    ensures idle { Idle table.now result }
+    ensures numbers { SameNumbers pass result }
 {
     meet(arrived, 2);
     for cell in 0..CELLS {
@@ -46,35 +43,34 @@ fn inserted(
     pass
 }
 
-fn both_sides<R: Threads>(
+fn insert_both_sides<R: Threads>(
     rt: &R,
     table: &Table<AnyPair>,
     arrived: &AtomicU64,
     one: Pass<AnyPair>,
     other: Pass<AnyPair>,
 ) -> (Pass<AnyPair>, Pass<AnyPair>)
-    requires one { IsOf table.now one × AtRest one.knows }
-    requires other { IsOf table.now other × AtRest other.knows }
-    ensures first { IsOf table.now result.0 × AtRest result.0.knows }
-    ensures second { IsOf table.now result.1 × AtRest result.1.knows }
+    requires one { Idle table.now one }
+    requires other { Idle table.now other }
+    ensures first { Idle table.now result.0 × SameNumbers one result.0 }
+    ensures second { Idle table.now result.1 × SameNumbers other result.1 }
 {
     join(
         rt,
         move || -> Pass<AnyPair>
-            requires { IsOf table.now one × AtRest one.knows }
-            ensures { IsOf table.entry.now result × AtRest result.knows }
-        { inserted(table, arrived, one, 0) },
+            requires { Idle table.now one }
+            ensures { Idle table.entry.now result × SameNumbers one result }
+        { insert_side(table, arrived, one, 0) },
         move || -> Pass<AnyPair>
-            requires { IsOf table.now other × AtRest other.knows }
-            ensures { IsOf table.entry.now result × AtRest result.knows }
-        { inserted(table, arrived, other, 1) },
+            requires { Idle table.now other }
+            ensures { Idle table.entry.now result × SameNumbers other result }
+        { insert_side(table, arrived, other, 1) },
     )
 }
 
 // Every key has its own value.
-fn finds_all<R: Abort>(rt: &R, table: &Table<AnyPair>, pass: &mut Pass<AnyPair>)
-    requires of { IsOf table.now pass.old }
-    requires rest { AtRest pass.old.knows }
+fn check_all_found<R: Abort>(rt: &R, table: &Table<AnyPair>, pass: &mut Pass<AnyPair>)
+    requires idle { Idle table.now pass.old }
 {
     for number in 0..2 * CELLS {
         let key = key_of(number / 2, number % 2);
@@ -86,17 +82,14 @@ fn finds_all<R: Abort>(rt: &R, table: &Table<AnyPair>, pass: &mut Pass<AnyPair>)
 fn two_threads_place_different_keys_with_the_same_homes(rt: HostRuntime) -> Result<(), Fail> {
     for _ in 0..1000 {
         let (table, mut a) = Table::new(rt.alloc(), 100, 2, &AnyPair)?;
-        assert!(rt; a.spare() == 1);
         let b = table.split(&mut a);
         let arrived = AtomicU64::new(0);
-        let (mut a, b) = both_sides(&rt, &table, &arrived, a, b);
+        let (mut a, b) = insert_both_sides(&rt, &table, &arrived, a, b);
         assert_eq!(rt; a.placed(), CELLS);
         assert_eq!(rt; b.placed(), CELLS);
-        let number = b.number();
-        assert_eq!(rt; number, 1);
         table.join(&mut a, b);
         assert_eq!(rt; a.placed(), 2 * CELLS);
-        finds_all(&rt, &table, &mut a);
+        check_all_found(&rt, &table, &mut a);
     }
     Ok(())
 }

@@ -1,178 +1,220 @@
-//! The step calls of `map_cells`, each with what a test needs before its next step. A word is told by its number: 0 for
-//! an empty key word and for an unset value word.
-ghost use Rattle.std.specs.Prelude.{◌≡◌, ◌≢◌, ◌<◌, ◌≤◌, IfOk, IsTrue, false};
-ghost use Rattle.map_core.specs.Places.{IsCell, home};
-ghost use Rattle.map_core.specs.Machine.{IsWord};
-ghost use Rattle.map_cells.specs.Words.{key_number, value_number};
-ghost use Rattle.table_tests.specs.States.{IsHome, Idle, SawKey, Owes};
+//! Every step call of `map_cells`, over a small table: 64 entries and 2 passes in 128 cells.
+ghost use Rattle.table_tests.specs.States.{Idle};
 
-use crate::any_pair::AnyPair;
-use map_cells::{Cell, Cells, KeyWord, Layout, Pass, Put, ValueWord};
-use share_map::{Full, Kept};
-use std::alloc::{AllocError, Global};
+use crate::step_helpers::{
+    claim_cell, count_entry, home_cell, join_passes, load_count, load_key, load_value,
+    publish_value, put_pair, seek_key, small_cells, split_pass,
+};
+use map_cells::{Cell, Cells, Layout, Pass};
+use share_map::{AnyPair, Full, Kept};
+use std::process::Abort;
+use std::test::Fail;
 
-/// A table with room for 64 entries and 2 passes, and its first pass.
-pub(crate) fn small_cells(alloc: Global) -> Result<(Cells<AnyPair>, Pass<AnyPair>), AllocError>
-    ensures { IfOk result (λ r. Idle r.0 r.1) }
-{
-    Cells::new(alloc, Layout::of(64, 2), 2, &AnyPair)
+// The top 7 bits of 5 * 11400714819323198485 modulo 2^64, and of 149 times it.
+const HOME_OF_5: u64 = 11;
+
+const SAME_HOME: u64 = 149;
+
+// Two keys whose home is the last of the 128 cells.
+const LAST_HOME: [u64; 2] = [144, 288];
+
+#[test]
+fn sizes_are_the_least_that_suffice(rt: HostRuntime) {
+    // capacity, passes, the last generation, its cells: at least four thirds of capacity and passes
+    let cases = [
+        (1, 1, 0, 64),
+        (46, 2, 0, 64),
+        (47, 2, 1, 128),
+        (64, 2, 1, 128),
+        (94, 2, 1, 128),
+        (95, 2, 2, 256),
+        (100, 2, 2, 256),
+        (4194304, 128, 17, 8388608),
+    ];
+    for (capacity, passes, last, cells) in cases {
+        assert!(rt; 1 <= capacity && capacity <= 4194304, "{capacity}");
+        assert!(rt; 1 <= passes && passes <= 128, "{passes}");
+        let layout = Layout::of(capacity, passes);
+        assert_eq!(rt; layout.last, last, "capacity {capacity}");
+        assert_eq!(rt; layout.cells(layout.last), cells, "capacity {capacity}");
+    }
 }
 
-/// The cell in which the walk of a key begins: the top bits of the key's product with 2^64 divided by the golden ratio.
-pub(crate) fn home_cell(cells: &Cells<AnyPair>, key: u64) -> Cell
-    ensures { IsHome cells.now.layout key result }
-{
+#[test]
+fn the_greatest_table_is_made_and_let_go(rt: HostRuntime) -> Result<(), Fail> {
+    let (cells, pass) = Cells::new(rt.alloc(), Layout::of(4194304, 128), 128, &AnyPair)?;
     let layout = cells.layout();
-    let generation = layout.last;
-    let index = home_index(generation, key);
-    Cell { generation, index }
+    assert_eq!(rt; layout.capacity, 4194304);
+    assert_eq!(rt; layout.cells(layout.last), 8388608);
+    assert_eq!(rt; pass.spare(), 127);
+    Ok(())
 }
 
-fn home_index(generation: u32, key: u64) -> u64
-    requires { generation ≤ 17 }
-    ensures { result ≡ home generation key }
-{
-    key.wrapping_mul(11400714819323198485) >> (58 - generation)
-}
-
-fn number_of_key(word: KeyWord) -> u64
-    ensures { result ≡ key_number word }
-{
-    match word {
-        KeyWord::Empty => 0,
-        KeyWord::Sealed => u64::MAX,
-        KeyWord::Key(key) => key,
-    }
-}
-
-fn number_of_value(word: ValueWord) -> u64
-    ensures { result ≡ value_number word }
-{
-    match word {
-        ValueWord::Unset => 0,
-        ValueWord::Closed => u64::MAX,
-        ValueWord::Value(value) => value,
-    }
-}
-
-/// Loads a key word.
-pub(crate) fn key_in(cells: &Cells<AnyPair>, pass: &mut Pass<AnyPair>, cell: Cell) -> u64
-    requires idle { Idle cells.now pass.old }
-    requires cell { IsCell cells.now.layout cell.generation cell.index }
-    ensures { Idle cells.now pass.new }
-{
-    number_of_key(cells.key_at(pass, cell))
-}
-
-/// Loads a value word.
-pub(crate) fn value_in(cells: &Cells<AnyPair>, pass: &mut Pass<AnyPair>, cell: Cell) -> u64
-    requires idle { Idle cells.now pass.old }
-    requires cell { IsCell cells.now.layout cell.generation cell.index }
-    ensures { Idle cells.now pass.new }
-{
-    number_of_value(cells.value_at(pass, cell))
-}
-
-/// Claims the home cell of a key.
-pub(crate) fn claimed(cells: &Cells<AnyPair>, pass: &mut Pass<AnyPair>, cell: Cell, key: u64) -> u64
-    requires idle { Idle cells.now pass.old }
-    requires home { IsHome cells.now.layout key cell }
-    requires key { IsWord key }
-    ensures won { result ≡ 0 → SawKey cells.now pass.new cell key }
-    ensures lost { result ≢ 0 → Idle cells.now pass.new }
-    ensures met { result ≢ 0 → SawKey cells.now pass.new cell result }
-{
-    pass.told();
-    number_of_key(cells.claim(pass, cell, key))
-}
-
-/// Publishes a value in a cell in which the key was seen.
-pub(crate) fn published(
-    cells: &Cells<AnyPair>,
-    pass: &mut Pass<AnyPair>,
-    cell: Cell,
-    key: u64,
-    value: u64,
-) -> u64
-    requires saw { SawKey cells.now pass.old cell key }
-    requires home { IsCell cells.now.layout cell.generation cell.index }
-    requires last { cell.generation ≡ cells.now.layout.last }
-    requires key { IsWord key }
-    requires value { IsWord value }
-    ensures won { result ≡ 0 → Owes cells.now pass.new }
-    ensures lost { result ≢ 0 → Idle cells.now pass.new }
-{
-    pass.told();
-    number_of_value(cells.publish(pass, cell, key, value))
-}
-
-/// Loads the count.
-pub(crate) fn count_in(cells: &Cells<AnyPair>, pass: &mut Pass<AnyPair>) -> u64
+// Every key word of the last generation is empty, and every value word unset.
+fn check_all_empty<R: Abort>(rt: &R, cells: &Cells<AnyPair>, pass: &mut Pass<AnyPair>)
     requires { Idle cells.now pass.old }
     ensures { Idle cells.now pass.new }
 {
-    cells.counted(pass)
-}
-
-/// Counts the entry that the pass has placed.
-pub(crate) fn tallied(cells: &Cells<AnyPair>, pass: &mut Pass<AnyPair>) -> u64
-    requires { Owes cells.now pass.old }
-    ensures { Idle cells.now pass.new }
-{
-    cells.count(pass)
-}
-
-/// Looks a key up in the last generation.
-pub(crate) fn sought(cells: &Cells<AnyPair>, pass: &mut Pass<AnyPair>, key: u64) -> Option<u64>
-    requires idle { Idle cells.now pass.old }
-    requires key { IsWord key }
-    ensures { Idle cells.now pass.new }
-{
-    pass.told();
     let layout = cells.layout();
-    cells.seek_from(pass, layout.last, key)
-}
-
-/// Puts a pair into the last generation, and counts it where it was placed.
-pub(crate) fn put(
-    cells: &Cells<AnyPair>,
-    pass: &mut Pass<AnyPair>,
-    key: u64,
-    value: u64,
-) -> Result<Kept, Full>
-    requires idle { Idle cells.now pass.old }
-    requires key { IsWord key }
-    requires value { IsWord value }
-    ensures { Idle cells.now pass.new }
-{
-    pass.told();
-    let layout = cells.layout();
-    match cells.put_from(pass, layout.last, key, value) {
-        Put::Placed => {
-            cells.count(pass);
-            Ok(Kept::Placed)
-        }
-        Put::Found(found) => Ok(Kept::Found(found)),
-        Put::Exhausted => Err(Full),
+    let generation = layout.last;
+    let count = layout.cells(generation);
+    for index in 0..count {
+        let cell = Cell { generation, index };
+        assert_eq!(rt; load_key(cells, pass, cell), 0, "key {index}");
+        assert_eq!(rt; load_value(cells, pass, cell), 0, "value {index}");
     }
 }
 
-/// Splits off a pass.
-pub(crate) fn parted(cells: &Cells<AnyPair>, pass: &mut Pass<AnyPair>) -> Pass<AnyPair>
-    requires idle { Idle cells.now pass.old }
-    requires spare { 0 < pass.old.knows.spare }
-    ensures old { Idle cells.now pass.new }
-    ensures new { Idle cells.now result }
-{
-    cells.split(pass)
+#[test]
+fn a_new_table_is_empty(rt: HostRuntime) -> Result<(), Fail> {
+    let (cells, mut pass) = small_cells(rt.alloc())?;
+    let layout = cells.layout();
+    assert_eq!(rt; layout.capacity, 64);
+    assert_eq!(rt; layout.passes, 2);
+    assert_eq!(rt; layout.last, 1);
+    assert_eq!(rt; layout.cells(1), 128);
+    assert_eq!(rt; pass.number(), 0);
+    assert_eq!(rt; pass.spare(), 1);
+    assert_eq!(rt; pass.placed(), 0);
+    assert_eq!(rt; load_count(&cells, &mut pass), 0);
+    check_all_empty(&rt, &cells, &mut pass);
+    assert_eq!(rt; seek_key(&cells, &mut pass, 5), None);
+    Ok(())
 }
 
-/// Takes a pass into another.
-pub(crate) fn taken_in(cells: &Cells<AnyPair>, into: &mut Pass<AnyPair>, from: Pass<AnyPair>)
-    requires idle { Idle cells.now into.old }
-    requires also { Idle cells.now from }
-    requires number { from.knows.number ≢ 0 }
-    ensures { Idle cells.now into.new }
+#[test]
+fn a_claim_answers_what_stood_in_the_cell(rt: HostRuntime) -> Result<(), Fail> {
+    let (cells, mut a) = small_cells(rt.alloc())?;
+    let mut b = split_pass(&cells, &mut a);
+    let cell = home_cell(&cells, 5);
+    assert_eq!(rt; cell.index, HOME_OF_5);
+    let other = home_cell(&cells, SAME_HOME);
+    assert_eq!(rt; other.index, HOME_OF_5);
+
+    assert_eq!(rt; load_key(&cells, &mut b, cell), 0, "empty");
+    assert_eq!(rt; claim_cell(&cells, &mut a, cell, 5), 0, "won");
+    assert_eq!(rt; load_key(&cells, &mut b, cell), 5, "the key stands");
+    assert_eq!(rt; load_value(&cells, &mut b, cell), 0, "with no value");
+    let before = claim_cell(&cells, &mut b, other, SAME_HOME);
+    assert_eq!(rt; before, 5, "another key stands");
+    let before = claim_cell(&cells, &mut b, cell, 5);
+    assert_eq!(rt; before, 5, "the same key stands");
+    assert_eq!(rt; seek_key(&cells, &mut b, 5), None, "no value yet");
+    assert_eq!(rt; load_count(&cells, &mut b), 0, "nothing counted");
+    Ok(())
+}
+
+#[test]
+fn a_publish_answers_what_stood_in_the_cell(rt: HostRuntime) -> Result<(), Fail> {
+    let (cells, mut a) = small_cells(rt.alloc())?;
+    let mut b = split_pass(&cells, &mut a);
+    let cell = home_cell(&cells, 5);
+    let before = claim_cell(&cells, &mut a, cell, 5);
+    assert_eq!(rt; before, 0, "won");
+    let before = claim_cell(&cells, &mut b, cell, 5);
+    assert_eq!(rt; before, 5, "lost");
+
+    let before = publish_value(&cells, &mut a, cell, 5, 7);
+    assert_eq!(rt; before, 0, "won");
+    let before = publish_value(&cells, &mut b, cell, 5, 9);
+    assert_eq!(rt; before, 7, "the first value stands");
+    assert_eq!(rt; b.placed(), 0);
+    assert_eq!(rt; load_value(&cells, &mut b, cell), 7);
+    assert_eq!(rt; load_count(&cells, &mut b), 0, "not counted yet");
+    assert_eq!(rt; count_entry(&cells, &mut a), 1, "the count after the step");
+    assert_eq!(rt; a.placed(), 1);
+    assert_eq!(rt; load_count(&cells, &mut b), 1);
+    assert_eq!(rt; seek_key(&cells, &mut a, 5), Some(7));
+    Ok(())
+}
+
+#[test]
+fn walks_go_past_other_keys(rt: HostRuntime) -> Result<(), Fail> {
+    let (cells, mut pass) = small_cells(rt.alloc())?;
+    assert_eq!(rt; put_pair(&cells, &mut pass, 5, 7), Ok(Kept::Placed));
+    assert_eq!(rt; seek_key(&cells, &mut pass, SAME_HOME), None);
+    assert_eq!(rt;
+        put_pair(&cells, &mut pass, SAME_HOME, 11),
+        Ok(Kept::Placed)
+    );
+    assert_eq!(rt;
+        put_pair(&cells, &mut pass, SAME_HOME, 12),
+        Ok(Kept::Found(11))
+    );
+    assert_eq!(rt; put_pair(&cells, &mut pass, 5, 8), Ok(Kept::Found(7)));
+    assert_eq!(rt; seek_key(&cells, &mut pass, SAME_HOME), Some(11));
+    assert_eq!(rt; seek_key(&cells, &mut pass, 5), Some(7));
+    assert_eq!(rt; seek_key(&cells, &mut pass, 6), None);
+    Ok(())
+}
+
+#[test]
+fn a_walk_goes_on_at_the_first_cell(rt: HostRuntime) -> Result<(), Fail> {
+    let (cells, mut pass) = small_cells(rt.alloc())?;
+    let [one, other] = LAST_HOME;
+    assert_eq!(rt; home_cell(&cells, one).index, 127);
+    assert_eq!(rt; home_cell(&cells, other).index, 127);
+    assert_eq!(rt; put_pair(&cells, &mut pass, one, 7), Ok(Kept::Placed));
+    assert_eq!(rt; seek_key(&cells, &mut pass, other), None);
+    assert_eq!(rt; put_pair(&cells, &mut pass, other, 8), Ok(Kept::Placed));
+    assert_eq!(rt; seek_key(&cells, &mut pass, other), Some(8));
+    assert_eq!(rt; seek_key(&cells, &mut pass, one), Some(7));
+    Ok(())
+}
+
+// Puts the keys 1 to 128, each with 1000 more than itself.
+fn fill<R: Abort>(rt: &R, cells: &Cells<AnyPair>, pass: &mut Pass<AnyPair>)
+    requires { Idle cells.now pass.old }
+    ensures { Idle cells.now pass.new }
 {
-    cells.join(into, from)
+    for key in 1..129 {
+        assert_eq!(rt;
+            put_pair(cells, pass, key, 1000 + key),
+            Ok(Kept::Placed),
+            "key {key}"
+        );
+    }
+}
+
+// The keys 1 to 128 have their values.
+fn check_all_found<R: Abort>(rt: &R, cells: &Cells<AnyPair>, pass: &mut Pass<AnyPair>)
+    requires { Idle cells.now pass.old }
+    ensures { Idle cells.now pass.new }
+{
+    for key in 1..129 {
+        assert_eq!(rt; seek_key(cells, pass, key), Some(1000 + key), "key {key}");
+    }
+}
+
+#[test]
+fn a_walk_through_all_cells_finds_no_room(rt: HostRuntime) -> Result<(), Fail> {
+    let (cells, mut pass) = small_cells(rt.alloc())?;
+    fill(&rt, &cells, &mut pass);
+    assert_eq!(rt; put_pair(&cells, &mut pass, 129, 1), Err(Full));
+    assert_eq!(rt; seek_key(&cells, &mut pass, 129), None);
+    check_all_found(&rt, &cells, &mut pass);
+    assert_eq!(rt; put_pair(&cells, &mut pass, 128, 1), Ok(Kept::Found(1128)));
+    assert_eq!(rt; pass.placed(), 128);
+    assert_eq!(rt; load_count(&cells, &mut pass), 128);
+    Ok(())
+}
+
+#[test]
+fn a_pass_is_split_off_and_taken_in(rt: HostRuntime) -> Result<(), Fail> {
+    let (cells, mut a) = small_cells(rt.alloc())?;
+    assert_eq!(rt; put_pair(&cells, &mut a, 5, 7), Ok(Kept::Placed));
+    let mut b = split_pass(&cells, &mut a);
+    assert_eq!(rt; a.spare(), 0);
+    assert_eq!(rt; a.number(), 0);
+    assert_eq!(rt; b.number(), 1);
+    assert_eq!(rt; b.spare(), 0);
+    assert_eq!(rt; b.placed(), 0);
+    assert_eq!(rt; put_pair(&cells, &mut b, 6, 8), Ok(Kept::Placed));
+    assert_eq!(rt; b.placed(), 1);
+    join_passes(&cells, &mut a, b);
+    assert_eq!(rt; a.number(), 0);
+    assert_eq!(rt; a.placed(), 2);
+    assert_eq!(rt; seek_key(&cells, &mut a, 6), Some(8));
+    assert_eq!(rt; cells.close(a), 2, "the count at the end");
+    Ok(())
 }

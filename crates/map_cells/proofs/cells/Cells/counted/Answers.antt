@@ -1,25 +1,24 @@
-use Rattle.std.proofs.Common.{◌≡◌, ◌<◌, ℕ, sym, ap, subst, ◌∙◌}
+use Rattle.std.proofs.Common.{◌<◌, ℕ, sym, subst}
 use mathlib.Core.Option.{none}
 use Rattle.atomic_table.specs.Table.{Allows, step}
-use Rattle.map_core.specs.declared.layout.Layout.{Layout}
 use Rattle.map_core.specs.declared.view.View.{View}
-use Rattle.map_cells.specs.Seen.{PassView, CellsView}
-use Rattle.map_cells.specs.Rule.{Kept, CountLooked}
-use Rattle.map_cells.proofs.WordSteps.{words_pos}
+use Rattle.map_cells.specs.declared.about.About.{About}
+use Rattle.map_core.specs.declared.places.TheConstants.{COUNT_WORD}
+use Rattle.map_cells.specs.Rule.{TableHolds, CountLooked}
+use Rattle.map_cells.proofs.WordSteps.{has_count}
 use Rattle.map_cells.proofs.Allowed.{count_look_allowed}
+use Rattle.map_cells.proofs.StepFacts.{seated}
 use Rattle.map_cells.proofs.cells.Cells.counted.Goals as goal
 
-pub load-requires : goal.load-requires
-load-requires g c =
+pub load-found-requires : goal.load-found-requires
+load-found-requires g c =
     let key = c.self.inside.table.shared.key in
     let slots : ℕ = c.self.inside.table.shared.table_id.slots in
     let me = c.pass.inside.seat.me in
     let v : View = c.pass.inside.seat.me.0 in
-    let layout : v.layout ≡ c.args.self.now.layout = ap (λ (p : PassView). p.knows.layout) c.pass.view_is ∙ c.requires.layout in
-    let inner : v.layout ≡ c.self.inside.layout = layout ∙ sym (ap (λ (p : CellsView). p.layout) c.self.view_is) in
-    let tables = ap (λ (p : PassView). p.table) c.pass.view_is ∙ (c.requires.table ∙ sym (ap (λ (p : CellsView). p.table) c.self.view_is)) in (
-      tables,
-      subst (λ (n : ℕ). 1 < n) (sym c.self.invariant.1) (words_pos c.self.inside.layout),
-      subst (λ (x : Layout). Allows (Kept g.F.Facts.fits record { layout = x; tag = key.tag }) slots c.pass.inside.seat.id me 1 (λ n. n) (CountLooked g.F.Facts.fits (step slots 1 0 0 none) me)) (inner ∙ sym c.self.invariant.0)
-          (count_look_allowed g.F.Facts.fits key.tag slots c.pass.inside.seat.id v me.1 c.pass.invariant.4),
+    let seat = seated c.args.self.now c.args.pass.now c.pass.inside.seat.table_id c.self.inside.table.shared.table_id v c.self.inside.layout key c.self.view_is c.pass.view_is c.self.invariant.0 c.requires in (
+      seat.tables,
+      subst (λ (n : ℕ). COUNT_WORD < n) (sym c.self.invariant.1) (has_count c.self.inside.layout),
+      subst (λ (x : About). Allows (TableHolds g.F.Facts.fits x) slots c.pass.inside.seat.id me COUNT_WORD (λ n. n) (CountLooked g.F.Facts.fits (step slots COUNT_WORD 0 0 none) me)) seat.about_is
+          (count_look_allowed g.F.Facts.fits key.tag slots c.pass.inside.seat.id v me.1 c.pass.invariant.facts),
     )

@@ -1,8 +1,8 @@
 use Rattle.std.proofs.Common.{◌≡◌, ℕ, ◌-◌, replicate, sym, ap, subst, ◌∙◌}
 use Rattle.map_core.specs.declared.view.View.{View}
-use Rattle.map_core.specs.Passes.{placed, Told}
+use Rattle.map_core.specs.Passes.{PassFacts}
 use Rattle.map_core.specs.Knowing.{first_view}
-use Rattle.map_core.proofs.StartLemmas.{first_told}
+use Rattle.map_core.proofs.StartLemmas.{first_facts}
 use Rattle.map_cells.proofs.Openings.{opens}
 use Rattle.map_cells.proofs.cells.Cells.new.Goals as goal
 
@@ -17,10 +17,12 @@ pub invariant_of-pass : goal.invariant_of-pass
 invariant_of-pass g c =
     let me = c.in_ok-table.ensures.4 in
     let v : View = first_view c.args.layout c.of.result.numbers in
-    let is : c.in_ok-table.seat.me.0 ≡ v = ap (λ m. m.0) me in (
-      ap (λ m. m.1) me,
-      sym (ap (λ (x : View). x.number) is),
-      ap (λ (n : ℕ). n - 1) c.requires ∙ sym (ap (λ (x : View). x.spare) is),
-      sym (ap placed is),
-      subst (Told g.F.Facts.fits) (sym is) (first_told g.F.Facts.fits c.args.layout c.of.result.numbers),
-    )
+    let is : c.in_ok-table.seat.me.0 ≡ v = ap (λ m. m.0) me in
+    record {
+      slots = ap (λ m. m.1) me;
+      number = sym (ap (λ (x : View). x.number) is);
+      spare = ap (λ (n : ℕ). n - 1) c.requires ∙ sym (ap (λ (x : View). x.spare) is);
+      entries = sym (ap (λ (x : View). x.counted) is);
+      count_seen = sym (ap (λ (x : View). x.count_seen) is);
+      facts = subst (PassFacts g.F.Facts.fits) (sym is) (first_facts g.F.Facts.fits c.args.layout c.of.result.numbers);
+    }

@@ -26,4 +26,4 @@ returns-in-Unset-clause-sought g c =
     let u : View = c.key_at.new.pass.knows in
     let s = c.in-Key.ensures.seen in
     let key : look u.known (key_place u.layout c.args.cell.generation c.args.cell.index) ≡ c.args.key = ap (λ (x : Layout). look u.known (key_place x c.args.cell.generation c.args.cell.index)) s.looks.steps.layout ∙ (s.word ∙ c.if-found-key.false) in
-    c.in-Unset.ensures.seen.absent c.args.key refl c.requires.key key (closed_more v u c.args.cell.generation c.args.key s.looks.steps c.requires.closed c.requires.key.0)
+    c.in-Unset.ensures.seen.absent c.args.key c.requires.key refl key (closed_more v u c.args.cell.generation c.args.key s.looks.steps c.requires.closed c.requires.key.0)

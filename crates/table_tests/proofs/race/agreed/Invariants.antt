@@ -1,5 +1,0 @@
-use Rattle.table_tests.specs.States.{Idle}
-use Rattle.table_tests.proofs.race.agreed.Given as goal
-
-abbrev pub invariant-loop-i : goal.invariant-loop-i
-invariant-loop-i g l = Idle l.cells l.pass

@@ -1,5 +1,0 @@
-use Rattle.table_tests.specs.States.{Idle}
-use Rattle.table_tests.proofs.step_calls.all_empty.Given as goal
-
-abbrev pub invariant-loop-index : goal.invariant-loop-index
-invariant-loop-index g l = Idle l.cells l.pass

@@ -1,3 +1,5 @@
+pub mod CountLaws
 pub mod Forward
 pub mod PairLaws
+pub mod ShortPairs
 pub mod WalkLaws

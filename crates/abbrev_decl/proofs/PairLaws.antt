@@ -1,12 +1,12 @@
 -- Laws of the pairs of a declaration.
-use Rattle.std.proofs.Common.{◌≡◌, ℕ, zero, suc, ◌+◌, ◌<◌, ◌≤◌, ◌==◌, ◌&&◌, List, [], ◌∷◌, length, Result, Ok, Err, Option, Some, None, refl, ap, ◌∙◌, arith}
+use Rattle.std.proofs.Common.{◌≡◌, ℕ, zero, suc, ◌+◌, ◌<◌, ◌≤◌, ◌==◌, ◌&&◌, List, [], ◌∷◌, length, Result, Ok, Err, Option, Some, None, refl, sym, ap, ◌∙◌, arith}
 use Rattle.dw_fields.specs.declared.fault_code.Fault.{Fault}
 use Rattle.dw_fields.specs.declared.fault_code.Code.TheVariants.{Truncated, DeclTruncated}
 use Rattle.dw_fields.specs.Codes.{fault}
 use Rattle.dw_fields.specs.Span.{Span, at}
 use Rattle.dw_fields.specs.Reading.{uleb_at, sleb_at}
 use Rattle.abbrev_decl.specs.declared.pairs.AttrSpec.{AttrSpec}
-use Rattle.abbrev_decl.specs.Pairs.{from, retold, implicit_at, pair_at, in_front, pairs_on, pairs_from, pairs_at, EndAtFirstZeroPair, IsRead, Skips, list_of}
+use Rattle.abbrev_decl.specs.Pairs.{from, in_table, implicit_at, pair_at, in_front, pairs_on, pairs_from, pairs_at, EndAtFirstZeroPair, IsRead, Skips, pairs_of}
 use Rattle.abbrev_decl.proofs.Forward.{Ahead, Ahead-is, Ahead-later, Ahead-renamed, Ahead-then, Ahead-either, uleb_ahead, sleb_ahead, uleb_end}
 
 -- behind the end no pair stands
@@ -14,10 +14,10 @@ pub pair_end : (section : List ℕ) (place : ℕ) → length section ≤ place �
 unfolding pair_at
 pair_end section place h = rw (uleb_end (from section place) h) refl
 
-pub start_uleb : (s : Span) → Ahead s.place (retold (uleb_at s))
+pub start_uleb : (s : Span) → Ahead s.place (in_table (uleb_at s))
 start_uleb s = Ahead-renamed Truncated DeclTruncated s.place (uleb_at s) (uleb_ahead s)
 
-pub later_uleb : (s : Span) (place : ℕ) → place < s.place → Ahead place (retold (uleb_at s))
+pub later_uleb : (s : Span) (place : ℕ) → place < s.place → Ahead place (in_table (uleb_at s))
 later_uleb s place h = Ahead-renamed Truncated DeclTruncated place (uleb_at s) (Ahead-later place s.place (uleb_at s) (omega arith) (uleb_ahead s))
 
 implicit_ahead : (form : ℕ) (s : Span) (place : ℕ) → place < s.place → Ahead place (implicit_at form s)
@@ -30,8 +30,8 @@ implicit_ahead form s place h =
 pair_ahead : (s : Span) → Ahead s.place (pair_at s)
 unfolding pair_at
 pair_ahead s =
-    Ahead-then s.place (retold (uleb_at s)) _ (start_uleb s)
-    (λ name p. Ahead-then s.place (retold (uleb_at (at s name.1))) _ (later_uleb (at s name.1) s.place p)
+    Ahead-then s.place (in_table (uleb_at s)) _ (start_uleb s)
+    (λ name p. Ahead-then s.place (in_table (uleb_at (at s name.1))) _ (later_uleb (at s name.1) s.place p)
     (λ form q. Ahead-either ((name.0 == 0) && (form.0 == 0)) s.place _ _ q
     (Ahead-then s.place (implicit_at form.0 (at s form.1)) _ (implicit_ahead form.0 (at s form.1) s.place q) (λ implicit r. r))))
 
@@ -115,10 +115,10 @@ pub pairs_fault : (section : List ℕ) (place : ℕ) (f : Fault) → pair_at (fr
 pairs_fault section place f e = pairs_step section place ∙ ap (λ found. pairs_on found (λ q. pairs_at section q)) e
 
 skips_read : (answer : Result (List AttrSpec × ℕ) Fault) (pairs : List AttrSpec) (next : ℕ) → answer ≡ Ok (pairs, next) → Skips (Ok next) answer
-skips_read answer pairs next e = let listed : list_of answer ≡ pairs = ap list_of e in cc
+skips_read answer pairs next e = let listed : pairs_of answer ≡ pairs = ap pairs_of e in cc
 
 skips_front : (r : Result ℕ Fault) (pair : AttrSpec) (others answer : Result (List AttrSpec × ℕ) Fault) → answer ≡ in_front pair others → Skips r others → Skips r answer
-skips_front (Ok next) pair others answer e h = skips_read answer (pair ∷ list_of others) next (e ∙ ap (in_front pair) h)
+skips_front (Ok next) pair others answer e h = skips_read answer (pair ∷ pairs_of others) next (e ∙ ap (in_front pair) h)
 skips_front (Err f) pair others answer e h = e ∙ ap (in_front pair) h
 
 pub skips_next : (r : Result ℕ Fault) (section : List ℕ) (place next : ℕ) (pair : AttrSpec) → pair_at (from section place) ≡ Ok (Some pair, next)
@@ -128,33 +128,26 @@ skips_next r section place next pair e h = skips_front r pair (pairs_at section 
 pub skips_end : (section : List ℕ) (place next : ℕ) → pair_at (from section place) ≡ Ok (None, next) → Skips (Ok next) (pairs_at section place)
 skips_end section place next e = skips_read (pairs_at section place) [] next (pairs_end section place next e)
 
-takes_front : (pair : AttrSpec) (others : Result (List AttrSpec × ℕ) Fault) → IsRead (in_front pair others) → (list_of (in_front pair others) ≡ pair ∷ list_of others) × IsRead others
+takes_front : (pair : AttrSpec) (others : Result (List AttrSpec × ℕ) Fault) → IsRead (in_front pair others) → (pairs_of (in_front pair others) ≡ pair ∷ pairs_of others) × IsRead others
 takes_front pair (Ok all) h = (refl, tt)
 takes_front pair (Err f) h = absurd h
 
 -- pairs that were read once are read again the same: a pair and those behind it
 pub takes_next : (section : List ℕ) (place next : ℕ) (pair : AttrSpec) → pair_at (from section place) ≡ Ok (Some pair, next) → IsRead (pairs_at section place)
-    → (list_of (pairs_at section place) ≡ pair ∷ list_of (pairs_at section next)) × IsRead (pairs_at section next)
+    → (pairs_of (pairs_at section place) ≡ pair ∷ pairs_of (pairs_at section next)) × IsRead (pairs_at section next)
 takes_next section place next pair e h =
     let read = rw (pairs_next section place next pair e) at h in
     rw (pairs_next section place next pair e) (takes_front pair (pairs_at section next) read)
 
 -- none where the pair 0, 0 stands
-pub takes_none : (section : List ℕ) (place next : ℕ) → pair_at (from section place) ≡ Ok (None, next) → list_of (pairs_at section place) ≡ []
-takes_none section place next e = ap list_of (pairs_end section place next e)
+pub takes_none : (section : List ℕ) (place next : ℕ) → pair_at (from section place) ≡ Ok (None, next) → pairs_of (pairs_at section place) ≡ []
+takes_none section place next e = ap pairs_of (pairs_end section place next e)
 
 -- and never a fault
 pub takes_fault : (section : List ℕ) (place : ℕ) (f : Fault) → pair_at (from section place) ≡ Err f → IsRead (pairs_at section place) → ⊥
 takes_fault section place f e h = rw (pairs_fault section place f e) at h
 
--- what a cut at a place reads, stands there
-pub pair_stands : (cut : Span) (section : List ℕ) (place next later : ℕ) (found seen : Option AttrSpec)
-    → cut ≡ from section place → pair_at cut ≡ Ok (found, next) → found ≡ seen → later ≡ next → pair_at (from section place) ≡ Ok (seen, later)
-pair_stands cut section place next later found seen stands read is same = cc
-
-pub fault_stands : (cut : Span) (section : List ℕ) (place : ℕ) (f : Fault)
-    → cut ≡ from section place → pair_at cut ≡ Err f → pair_at (from section place) ≡ Err f
-fault_stands cut section place f stands read = cc
-
-pub from_stands : (cut after : Span) (section : List ℕ) (place : ℕ) → cut ≡ from section place → after ≡ at cut after.place → after ≡ from section after.place
-from_stands cut after section place stands e = e ∙ ap (λ s. at s after.place) stands
+-- what was read of a pair stands there
+pub pair_stands : (answer : Result (Option AttrSpec × ℕ) Fault) (next : ℕ) (found seen : Option AttrSpec)
+    → Ok (found, next) ≡ answer → found ≡ seen → answer ≡ Ok (seen, next)
+pair_stands answer next found seen read is = sym read ∙ ap (λ f. Ok (f, next)) is

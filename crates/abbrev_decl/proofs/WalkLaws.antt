@@ -10,10 +10,10 @@ use Rattle.abbrev_decl.specs.declared.pairs.AttrSpec.{AttrSpec}
 use Rattle.abbrev_decl.specs.declared.declarations.Head.{Head}
 use Rattle.abbrev_decl.specs.declared.lookup.FindFault.{FindFault}
 use Rattle.abbrev_decl.specs.declared.lookup.FindFault.TheVariants as faults
-use Rattle.abbrev_decl.specs.Pairs.{from, retold, pairs_at}
+use Rattle.abbrev_decl.specs.Pairs.{from, in_table, pairs_at}
 use Rattle.abbrev_decl.specs.Shapes.{DeclView}
 use Rattle.abbrev_decl.specs.Declarations.{head_at, StandsInside, with_pairs, declared, declaration_at}
-use Rattle.abbrev_decl.specs.Lookup.{first_on, first_from, first_declaration, WalkEnds, IsFirst}
+use Rattle.abbrev_decl.specs.Lookup.{first_on, first_from, first_declaration, walked_on, walked_from, declarations_walked, WalkEnds, IsFirst}
 use Rattle.abbrev_decl.proofs.Forward.{Ahead, Ahead-later, Ahead-renamed, byte_ahead, uleb_end}
 use Rattle.abbrev_decl.proofs.PairLaws.{pairs_ahead, start_uleb, later_uleb}
 
@@ -23,7 +23,7 @@ HeadAhead place (Ok (Some head)) = place < head.pairs
 HeadAhead place (Ok None) = Unit {0}
 HeadAhead place (Err f) = Unit {0}
 
-abbrev DeclAhead : ℕ → Result (Option (DeclView × ℕ)) Fault → Type 0
+abbrev pub DeclAhead : ℕ → Result (Option (DeclView × ℕ)) Fault → Type 0
 DeclAhead place (Ok (Some found)) = place < found.1
 DeclAhead place (Ok None) = Unit {0}
 DeclAhead place (Err f) = Unit {0}
@@ -41,16 +41,16 @@ HeadAhead-refuse : (bad : Bool) (f : Fault) (place : ℕ) (next : Result (Option
 HeadAhead-refuse true f place next h = tt
 HeadAhead-refuse false f place next h = h
 
-later_byte : (s : Span) (place : ℕ) → place < s.place → Ahead place (retold (number_at 1 s))
+later_byte : (s : Span) (place : ℕ) → place < s.place → Ahead place (in_table (number_at 1 s))
 later_byte s place h = Ahead-renamed Truncated DeclTruncated place (number_at 1 s) (Ahead-later place s.place (number_at 1 s) (omega arith) (byte_ahead s))
 
 head_ahead : (section : List ℕ) (place : ℕ) → HeadAhead place (head_at section place)
 unfolding head_at
 head_ahead section place =
-    HeadAhead-then place (retold (uleb_at (from section place))) _ (start_uleb (from section place))
+    HeadAhead-then place (in_table (uleb_at (from section place))) _ (start_uleb (from section place))
     (λ code p. HeadAhead-either (code.0 == 0) place _ _ tt
-    (HeadAhead-then place (retold (uleb_at (from section code.1))) _ (later_uleb (from section code.1) place p)
-    (λ tag q. HeadAhead-then place (retold (number_at 1 (from section tag.1))) _ (later_byte (from section tag.1) place q)
+    (HeadAhead-then place (in_table (uleb_at (from section code.1))) _ (later_uleb (from section code.1) place p)
+    (λ tag q. HeadAhead-then place (in_table (number_at 1 (from section tag.1))) _ (later_byte (from section tag.1) place q)
     (λ children r. HeadAhead-refuse (nat_lt 1 children.0) (fault ChildrenByte tag.1) place _ r))))
 
 with_pairs_ahead : (place : ℕ) (head : Head) (pairs : Result (List AttrSpec × ℕ) Fault) → place < head.pairs → Ahead head.pairs pairs → DeclAhead place (with_pairs place head pairs)
@@ -62,7 +62,7 @@ declared_ahead section place (Err f) h = tt
 declared_ahead section place (Ok None) h = tt
 declared_ahead section place (Ok (Some head)) h = with_pairs_ahead place head (pairs_at section head.pairs) h (pairs_ahead section head.pairs)
 
-declaration_ahead : (section : List ℕ) (place : ℕ) → DeclAhead place (declaration_at section place)
+pub declaration_ahead : (section : List ℕ) (place : ℕ) → DeclAhead place (declaration_at section place)
 unfolding declaration_at
 declaration_ahead section place = declared_ahead section place (head_at section place) (head_ahead section place)
 
@@ -98,30 +98,49 @@ pub walk_step : (section : List ℕ) (place code : ℕ)
 unfolding first_declaration
 walk_step section place code = walk_enough (length section + 1) (suc (length section + 1)) section place code (omega arith) (omega arith)
 
-others_more : (section : List ℕ) (place next code : ℕ) (other : DeclView) (answer : Result DeclView FindFault)
-    → declaration_at section place ≡ Ok (Some (other, next)) → (other.code ≢ code) → IsFirst section next code answer → IsFirst section place code answer
-others_more section place next code other answer e ne law = record { others = other ∷ law.others; last = law.last; stand = (next, e, ne, law.stand); end = law.end }
+others_more : (section : List ℕ) (place next code walked : ℕ) (other : DeclView) (answer : Result DeclView FindFault)
+    → declaration_at section place ≡ Ok (Some (other, next)) → (other.code ≢ code) → IsFirst section next code walked answer
+    → IsFirst section place code (walked + 1) answer
+others_more section place next code walked other answer e ne law = record {
+  others = other ∷ law.others;
+  last = law.last;
+  stand = (next, e, ne, law.stand);
+  end = law.end;
+  counted = omega (arith, law.counted);
+}
 
-picked : (found : Bool) (section : List ℕ) (place next code : ℕ) (declaration : DeclView) (others : Result DeclView FindFault)
-    → declaration_at section place ≡ Ok (Some (declaration, next)) → (declaration.code == code) ≡ found → IsFirst section next code others
-    → IsFirst section place code (cond found (Ok declaration) others)
-picked true section place next code declaration others e same law = record { others = []; last = place; stand = refl; end = (eqb-true declaration.code code same, next, e) }
-picked false section place next code declaration others e same law = others_more section place next code declaration others e (λ equal. let yes : eqb declaration.code code ≡ true = eq-eqb declaration.code code equal in cc) law
+picked : (found : Bool) (section : List ℕ) (place next code walked : ℕ) (declaration : DeclView) (others : Result DeclView FindFault)
+    → declaration_at section place ≡ Ok (Some (declaration, next)) → (declaration.code == code) ≡ found → IsFirst section next code walked others
+    → IsFirst section place code (cond found 1 (walked + 1)) (cond found (Ok declaration) others)
+picked true section place next code walked declaration others e same law = record {
+  others = [];
+  last = place;
+  stand = refl;
+  end = (eqb-true declaration.code code same, next, e);
+  counted = refl;
+}
+picked false section place next code walked declaration others e same law =
+    others_more section place next code walked declaration others e
+    (λ equal. let yes : eqb declaration.code code ≡ true = eq-eqb declaration.code code equal in cc) law
 
-law_on : (found : Result (Option (DeclView × ℕ)) Fault) (section : List ℕ) (place code : ℕ) (others : ℕ → Result DeclView FindFault)
-    → declaration_at section place ≡ found → ((next : ℕ) → place < next → IsFirst section next code (others next)) → DeclAhead place found
-    → IsFirst section place code (first_on found code others)
-law_on (Err f) section place code others e k h = record { others = []; last = place; stand = refl; end = e }
-law_on (Ok None) section place code others e k h = record { others = []; last = place; stand = refl; end = e }
-law_on (Ok (Some (declaration, next))) section place code others e k h = picked (declaration.code == code) section place next code declaration (others next) e refl (k next h)
+law_on : (found : Result (Option (DeclView × ℕ)) Fault) (section : List ℕ) (place code : ℕ) (counts : ℕ → ℕ) (others : ℕ → Result DeclView FindFault)
+    → declaration_at section place ≡ found → ((next : ℕ) → place < next → IsFirst section next code (counts next) (others next)) → DeclAhead place found
+    → IsFirst section place code (walked_on found code counts) (first_on found code others)
+law_on (Err f) section place code counts others e k h = record { others = []; last = place; stand = refl; end = e; counted = refl }
+law_on (Ok None) section place code counts others e k h = record { others = []; last = place; stand = refl; end = e; counted = refl }
+law_on (Ok (Some (declaration, next))) section place code counts others e k h =
+    picked (declaration.code == code) section place next code (counts next) declaration (others next) e refl (k next h)
 
-law_from : (n : ℕ) (section : List ℕ) (place code : ℕ) → length section ≤ place + n → IsFirst section place code (first_from n section place code)
-law_from zero section place code p = record { others = []; last = place; stand = refl; end = declaration_end section place (omega arith) }
+law_from : (n : ℕ) (section : List ℕ) (place code : ℕ) → length section ≤ place + n
+    → IsFirst section place code (walked_from n section place code) (first_from n section place code)
+law_from zero section place code p =
+    record { others = []; last = place; stand = refl; end = declaration_end section place (omega arith); counted = refl }
 law_from (suc n) section place code p =
-    law_on (declaration_at section place) section place code (λ next. first_from n section next code) refl (λ next h. law_from n section next code (omega arith)) (declaration_ahead section place)
+    law_on (declaration_at section place) section place code (λ next. walked_from n section next code) (λ next. first_from n section next code) refl
+    (λ next h. law_from n section next code (omega arith)) (declaration_ahead section place)
 
-pub walk_law : (section : List ℕ) (place code : ℕ) → IsFirst section place code (first_declaration section place code)
-unfolding first_declaration
+pub walk_law : (section : List ℕ) (place code : ℕ) → IsFirst section place code (declarations_walked section place code) (first_declaration section place code)
+unfolding first_declaration declarations_walked
 walk_law section place code = law_from (length section + 1) section place code (omega arith)
 
 picked_same : (section : List ℕ) (code : ℕ) (declaration : DeclView) (others : Result DeclView FindFault)

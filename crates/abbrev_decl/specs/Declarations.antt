@@ -6,26 +6,38 @@ use Rattle.dw_fields.specs.Codes.{fault}
 use Rattle.dw_fields.specs.Reading.{refuse, ◌>>=◌, ◌>>◌, number_at, uleb_at}
 use Rattle.abbrev_decl.specs.declared.pairs.AttrSpec.{AttrSpec}
 use Rattle.abbrev_decl.specs.declared.declarations.Head.{Head}
-use Rattle.abbrev_decl.specs.Pairs.{from, retold, pairs_at}
+use Rattle.abbrev_decl.specs.Pairs.{from, in_table, pairs_at}
 use Rattle.abbrev_decl.specs.Shapes.{DeclView}
 
 -- The front of a declaration, up to its pairs: a code in ULEB128, a tag in ULEB128, and a byte that
 -- says whether entries with this code have children. None is the code 0, which ends a table.
 unfoldable pub head_at : List ℕ → ℕ → Result (Option Head) Fault
 head_at section place = do
-  code ← retold (uleb_at (from section place))
+  code ← in_table (uleb_at (from section place))
   (if code.0 == 0 then Ok None else (do
-    tag ← retold (uleb_at (from section code.1))
-    children ← retold (number_at 1 (from section tag.1))
+    tag ← in_table (uleb_at (from section code.1))
+    children ← in_table (number_at 1 (from section tag.1))
     refuse (nat_lt 1 children.0) (fault ChildrenByte tag.1)
     Ok (Some (record { code = code.0; tag = tag.0; children = children.0 == 1; pairs = children.1 }))))
 
--- A declaration of its front and its pairs, with the place behind it.
-abbrev pub with_pairs : ℕ → Head → Result (List AttrSpec × ℕ) Fault → Result (Option (DeclView × ℕ)) Fault
-with_pairs place head (Err f) = Err f
-with_pairs place head (Ok pairs) = Ok (Some (record { code = head.code; tag = head.tag; children = head.children; place = place; pairs = pairs.0 }, pairs.1))
+-- A declaration that begins at a place, of its front and its pairs.
+abbrev pub at_head : ℕ → Head → List AttrSpec → DeclView
+at_head place head pairs = record {
+  code = head.code;
+  tag = head.tag;
+  children = head.children;
+  place = place;
+  pairs = pairs;
+}
 
-abbrev pub declared : List ℕ → ℕ → Result (Option Head) Fault → Result (Option (DeclView × ℕ)) Fault
+-- The same with the place behind the pairs.
+abbrev pub with_pairs : ℕ → Head → Result (List AttrSpec × ℕ) Fault
+    → Result (Option (DeclView × ℕ)) Fault
+with_pairs place head (Err f) = Err f
+with_pairs place head (Ok pairs) = Ok (Some (at_head place head pairs.0, pairs.1))
+
+abbrev pub declared : List ℕ → ℕ → Result (Option Head) Fault
+    → Result (Option (DeclView × ℕ)) Fault
 declared section place (Err f) = Err f
 declared section place (Ok None) = Ok None
 declared section place (Ok (Some head)) = with_pairs place head (pairs_at section head.pairs)

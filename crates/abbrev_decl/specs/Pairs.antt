@@ -6,6 +6,7 @@ use Rattle.dw_fields.specs.declared.byte_order.Order.TheVariants.{Little}
 use Rattle.dw_fields.specs.Codes.{fault}
 use Rattle.dw_fields.specs.Span.{Span, at}
 use Rattle.dw_fields.specs.Reading.{Reader, ◌>>=◌, renamed, uleb_at, sleb_at}
+use Rattle.dw_numbers.specs.declared.form.TheConstants.{IMPLICIT_CONST}
 use Rattle.abbrev_decl.specs.declared.pairs.AttrSpec.{AttrSpec}
 
 -- `.debug_abbrev` from a place to its end. Its numbers are LEB128 and single bytes, which have no
@@ -14,21 +15,27 @@ abbrev pub from : List ℕ → ℕ → Span
 from section place = record { bytes = section; place = place; end = length section; order = Little }
 
 -- A field that passes the section's end makes a truncated declaration, at that field.
-abbrev pub retold : {X : Type 0} → Result X Fault → Result X Fault
-retold read = renamed Truncated DeclTruncated read
+abbrev pub in_table : {X : Type 0} → Result X Fault → Result X Fault
+in_table read = renamed Truncated DeclTruncated read
 
--- What stands behind a form in its pair: for implicit_const (0x21) an SLEB128, else nothing.
+-- What stands behind a form in its pair: for implicit_const an SLEB128, else nothing.
 unfoldable pub implicit_at : ℕ → Reader ℤ
-implicit_at form s = if form == 0x21 then retold (sleb_at s) else Ok (pos 0, s.place)
+implicit_at form s = if form == IMPLICIT_CONST then in_table (sleb_at s) else Ok (pos 0, s.place)
 
 -- A pair: a name and a form in ULEB128. None is the pair 0, 0.
 unfoldable pub pair_at : Reader (Option AttrSpec)
 pair_at s = do
-  name ← retold (uleb_at s)
-  form ← retold (uleb_at (at s name.1))
+  name ← in_table (uleb_at s)
+  form ← in_table (uleb_at (at s name.1))
   (if (name.0 == 0) && (form.0 == 0) then Ok (None, form.1) else (do
     implicit ← implicit_at form.0 (at s form.1)
     Ok (Some (record { name = name.0; form = form.0; implicit = implicit.0 }), implicit.1)))
+
+-- The same where name and form take one byte each and no number stands behind them.
+abbrev pub short_pair : ℕ → ℕ → Option AttrSpec
+short_pair name form =
+    if (name == 0) && (form == 0) then None
+    else Some (record { name = name; form = form; implicit = pos 0 })
 
 -- A pair in front of the pairs behind it.
 abbrev pub in_front : AttrSpec → Result (List AttrSpec × ℕ) Fault → Result (List AttrSpec × ℕ) Fault
@@ -74,21 +81,21 @@ abbrev pub IsRead : Result (List AttrSpec × ℕ) Fault → Type 0
 IsRead (Ok all) = Unit {0}
 IsRead (Err f) = ⊥
 
-abbrev pub list_of : Result (List AttrSpec × ℕ) Fault → List AttrSpec
-list_of (Ok all) = all.0
-list_of (Err f) = []
+-- Pairs that begin in their section and were read.
+pub record PairsWereRead (section : List ℕ) (place : ℕ) : Type 0 where
+  pub inside : place ≤ length section
+  pub read : IsRead (pairs_at section place)
+
+abbrev pub pairs_of : Result (List AttrSpec × ℕ) Fault → List AttrSpec
+pairs_of (Ok all) = all.0
+pairs_of (Err f) = []
 
 -- The first of a list was taken from it; or nothing was, from none.
-abbrev pub Takes : Option AttrSpec → List AttrSpec → List AttrSpec → Type 0
-Takes None old new = (old ≡ []) × (new ≡ [])
-Takes (Some pair) old new = old ≡ pair ∷ new
-
--- A cut that went on, or stayed, inside its end.
-pub record Onward (old new : Span) : Type 0 where
-  pub forward : old.place ≤ new.place
-  pub inside : old.place ≤ old.end → new.place ≤ old.end
+abbrev pub TakesPair : Option AttrSpec → List AttrSpec → List AttrSpec → Type 0
+TakesPair None old new = (old ≡ []) × (new ≡ [])
+TakesPair (Some pair) old new = old ≡ pair ∷ new
 
 -- The place behind pairs, or the fault in them.
 abbrev pub Skips : Result ℕ Fault → Result (List AttrSpec × ℕ) Fault → Type 0
-Skips (Ok next) answer = answer ≡ Ok (list_of answer, next)
+Skips (Ok next) answer = answer ≡ Ok (pairs_of answer, next)
 Skips (Err f) answer = answer ≡ Err f

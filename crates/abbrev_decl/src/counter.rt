@@ -1,6 +1,6 @@
 //! A counter of work.
 
-ghost use Rattle.std.specs.Prelude.{◌≡◌, ℕ};
+ghost use Rattle.std.specs.Prelude.{◌≡◌, ◌≤◌, ℕ};
 ghost use Rattle.abbrev_decl.specs.Counting.{ticked};
 
 use std::marker::Model;
@@ -35,7 +35,8 @@ impl<L> Steps<L> {
     /// Counts one more. At the greatest `u64` the counter stands still.
     #[tactic(auto, unfolding(crate::specs::Counting::ticked_by))]
     pub fn tick(&mut self)
-        ensures { self.new ≡ ticked self.old }
+        ensures counted { self.new ≡ ticked self.old }
+        ensures never_less { self.old ≤ self.new }
     {
         self.count = self.count.saturating_add(1);
     }

@@ -2,11 +2,11 @@
 
 ghost use Rattle.std.specs.Prelude.{◌≡◌, ◌≤◌, ◌+◌, length};
 ghost use Rattle.abbrev_decl.specs.Counting.{ticked};
-ghost use Rattle.abbrev_decl.specs.Pairs.{IsRead, Takes, list_of, pairs_at};
-ghost use Rattle.abbrev_decl.specs.Declarations.{EndsInside, HeadInside, Stands, StandsAs, declaration_at, head_at};
+ghost use Rattle.abbrev_decl.specs.Pairs.{PairsWereRead, TakesPair, pairs_of, pairs_at};
+ghost use Rattle.abbrev_decl.specs.Declarations.{EndsInside, HeadInside, Stands, StandsAs, at_head, declaration_at, head_at};
 
 use crate::counter::Steps;
-use crate::pairs::{AttrSpec, read_pair, retold, skip_pairs, whole};
+use crate::pairs::{AttrSpec, in_table, read_pair, skip_pairs, whole};
 use dw_fields::{Code, Fault};
 use std::marker::Model;
 
@@ -32,9 +32,8 @@ pub struct Decl<'f> {
 }
 
 impl<'f> Model for Decl<'f> {
-    ghost use Rattle.std.specs.Prelude.{◌≤◌, length};
     ghost use Rattle.abbrev_decl.specs.Shapes.{DeclView};
-    ghost use Rattle.abbrev_decl.specs.Pairs.{IsRead, list_of, pairs_at};
+    ghost use Rattle.abbrev_decl.specs.Pairs.{PairsWereRead, pairs_of, pairs_at};
 
     ghost Value = { DeclView };
 
@@ -43,10 +42,10 @@ impl<'f> Model for Decl<'f> {
       tag = d.tag;
       children = d.children;
       place = d.place;
-      pairs = list_of (pairs_at d.section.now d.pairs);
+      pairs = pairs_of (pairs_at d.section.now d.pairs);
     } };
 
-    ghost invariant = { λ d. (d.pairs ≤ length d.section.now) × IsRead (pairs_at d.section.now d.pairs) };
+    ghost invariant = { λ d. PairsWereRead d.section.now d.pairs };
 }
 
 impl<'f> Decl<'f> {
@@ -97,29 +96,28 @@ pub struct Attrs<'f> {
 }
 
 impl<'f> Model for Attrs<'f> {
-    ghost use Rattle.std.specs.Prelude.{◌≤◌, List, length};
+    ghost use Rattle.std.specs.Prelude.{List};
     ghost use Rattle.abbrev_decl.specs.declared.pairs.AttrSpec.{AttrSpec};
-    ghost use Rattle.abbrev_decl.specs.Pairs.{IsRead, list_of, pairs_at};
+    ghost use Rattle.abbrev_decl.specs.Pairs.{PairsWereRead, pairs_of, pairs_at};
 
     ghost Value = { List AttrSpec };
 
-    ghost view = { λ a. list_of (pairs_at a.section.now a.place) };
+    ghost view = { λ a. pairs_of (pairs_at a.section.now a.place) };
 
-    ghost invariant = { λ a. (a.place ≤ length a.section.now) × IsRead (pairs_at a.section.now a.place) };
+    ghost invariant = { λ a. PairsWereRead a.section.now a.place };
 }
 
 impl<'f> Attrs<'f> {
     /// The next pair; `None` behind the last one.
     pub fn next(&mut self) -> Option<AttrSpec>
-        ensures { Takes result self.old self.new }
+        ensures { TakesPair result self.old self.new }
     {
-        let mut cut = whole(self.section, self.place);
-        match read_pair(&mut cut) {
-            Ok(Some(pair)) => {
-                self.place = cut.place();
+        match read_pair(self.section, self.place) {
+            Ok((Some(pair), place)) => {
+                self.place = place;
                 Some(pair)
             }
-            Ok(None) => None,
+            Ok((None, _)) => None,
             // The pairs of a declaration were read before.
             Err(_) => None,
         }
@@ -134,18 +132,15 @@ fn read_head(section: &[u8], place: u64) -> Result<Option<Head>, Fault>
     ensures inside { HeadInside place (length section.now) result }
 {
     let mut cut = whole(section, place);
-    let code = retold(cut.uleb())?;
+    let code = in_table(cut.uleb())?;
     if code == 0 {
         return Ok(None);
     }
-    let tag = retold(cut.uleb())?;
+    let tag = in_table(cut.uleb())?;
     let byte = cut.place();
-    let children = retold(cut.u8())?;
+    let children = in_table(cut.u8())?;
     if 1 < children {
-        return Err(Fault {
-            code: Code::ChildrenByte,
-            place: byte,
-        });
+        return Err(Fault::at(Code::ChildrenByte, byte));
     }
     Ok(Some(Head {
         code,
@@ -158,8 +153,11 @@ fn read_head(section: &[u8], place: u64) -> Result<Option<Head>, Fault>
 /// Reads the declaration at `place` in `.debug_abbrev` and the place behind it; `None` is the code
 /// 0 that ends a table. Counts one step, whatever the answer.
 ///
-/// Refused with 31 at a field that passes the section's end, 32 at a LEB128 of more than 64 bits,
-/// and 33 at a children byte above 1: the first in the order of the fields.
+/// # Errors
+/// The first in the order of the fields.
+/// - `DeclTruncated` at a field that passes the section's end.
+/// - `LebTooLarge` at a LEB128 of more than 64 bits.
+/// - `ChildrenByte` at a children byte above 1.
 #[tactic(auto, unfolding(crate::specs::Declarations::declaration_at))]
 pub fn read_decl<'f, L>(
     section: &'f [u8],
@@ -170,25 +168,20 @@ pub fn read_decl<'f, L>(
     ensures answer { result ≡ declaration_at section.entry.now place }
     ensures inside { EndsInside place (length section.entry.now) result }
     ensures counted { steps.new ≡ ticked steps.old }
+    ensures never_less { steps.old ≤ steps.new }
 {
     steps.tick();
-    let head = match read_head(section, place) {
-        Ok(Some(head)) => head,
-        Ok(None) => return Ok(None),
-        Err(fault) => return Err(fault),
+    let Some(head) = read_head(section, place)? else {
+        return Ok(None);
     };
-    let next = match skip_pairs(section, head.pairs) {
-        Ok(next) => next,
-        Err(fault) => return Err(fault),
-    };
+    let next = skip_pairs(section, head.pairs)?;
     Ok(Some((at_head(section, place, head), next)))
 }
 
 /// The declaration that begins with a front.
 fn at_head<'f>(section: &'f [u8], place: u64, head: Head) -> Decl<'f>
-    requires inside { head.pairs ≤ length section.now }
-    requires read { IsRead (pairs_at section.now head.pairs) }
-    ensures { result ≡ record { code = head.code; tag = head.tag; children = head.children; place = place; pairs = list_of (pairs_at section.entry.now head.pairs) } }
+    requires { PairsWereRead section.now head.pairs }
+    ensures { result ≡ at_head place head (pairs_of (pairs_at section.entry.now head.pairs)) }
 {
     Decl {
         section,

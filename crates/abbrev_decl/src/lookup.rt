@@ -1,7 +1,8 @@
 //! The first declaration of a code.
 
-ghost use Rattle.std.specs.Prelude.{◌≡◌, ℕ, List, [], Bool, true, ◌<◌, ◌≤◌, ◌^◌, length, refl, Contains, IfOk, OnOk, IsOk};
-ghost use Rattle.abbrev_decl.specs.Lookup.{Extends, IsFirst, Notes, PlacesAtMost, first_declaration, key};
+ghost use Rattle.std.specs.Prelude.{◌≡◌, ℕ, List, [], Bool, true, ◌<◌, ◌≤◌, ◌^◌, length, refl, Contains, IfOk, OnOk};
+ghost use Rattle.abbrev_decl.specs.Counting.{ticked_by};
+ghost use Rattle.abbrev_decl.specs.Lookup.{IsFirst, IsSmallFound, LeavesSource, Notes, PlacesAtMost, declarations_walked, first_declaration, key, left_alone};
 ghost use Rattle.abbrev_decl.specs.Declarations.{StandsInside};
 
 use crate::counter::Steps;
@@ -22,8 +23,12 @@ pub enum FindFault {
 ///
 /// Its meanings: `section` is the bytes of `.debug_abbrev`; `seen` is a list of keys; `placed` is
 /// the list of the keys that it put there itself; `spent` says that it has no room for more;
-/// `follows` is what stays between two of its states. The key of a declaration is `table * 2^32 +
-/// code`.
+/// `follows` is what stays between two of its states; `counts` is what it may make of a counter of
+/// work, from a state, when it is asked for a code of a table. The key of a declaration is
+/// `table * 2^32 + code`.
+///
+/// Whoever asks one several times needs `follows` alone: the laws say that it chains, and that from
+/// it the section is kept, what was seen stays seen, and what was spent stays spent.
 pub trait Decls<'f> {
     ghost section: { Self → List ℕ };
 
@@ -35,10 +40,13 @@ pub trait Decls<'f> {
 
     ghost follows: { Self → Self → Type 0 };
 
+    ghost counts: { Self → ℕ → ℕ → ℕ → ℕ → Type 0 };
+
     /// The first declaration with this code, walking from `table`, a place in `.debug_abbrev`.
     ///
-    /// `CodeMissing` comes where the walk ends at a code 0 without it, and `Broken` where it ends at
-    /// a declaration that can't be read.
+    /// # Errors
+    /// `CodeMissing` where the walk ends at a code 0 without it, and `Broken` where it ends at a
+    /// declaration that can't be read.
     fn find<L>(
         &mut self,
         table: u32,
@@ -48,17 +56,19 @@ pub trait Decls<'f> {
         requires inside { table ≤ length (section self.old) }
         requires some { 0 < code }
         ensures answer { result ≡ first_declaration (section self.old) table code }
-        ensures kept { section self.new ≡ section self.old }
         ensures follows { follows self.old self.new }
-        ensures seen { Extends (seen self.old) (seen self.new) }
-        ensures placed { PlacesAtMost (placed self.old) (placed self.new) (key table code) ((code < 2 ^ 32) × IsOk result) }
-        ensures spent { spent self.old ≡ true → spent self.new ≡ true }
-        ensures noted { code < 2 ^ 32 → OnOk result (Notes (seen self.new) (spent self.new) (key table code)) }
-        ensures known { code < 2 ^ 32 → Contains (seen self.old) (key table code) → steps.new ≡ steps.old };
+        ensures counted { counts self.old table code steps.old steps.new }
+        ensures never_less { steps.old ≤ steps.new }
+        ensures known { code < 2 ^ 32 → Contains (seen self.old) (key table code) → steps.new ≡ steps.old }
+        ensures placed { PlacesAtMost (placed self.old) (placed self.new) (key table code) (IsSmallFound code result) }
+        ensures noted { code < 2 ^ 32 → OnOk result (Notes (seen self.new) (spent self.new) (key table code)) };
 
     ghost reflexive: { (x : Self) → follows x x };
 
     ghost transitive: { (x y z : Self) → follows x y → follows y z → follows x z };
+
+    ghost leaves: { (x y : Self) → follows x y
+        → LeavesSource (section x) (section y) (seen x) (seen y) (spent x) (spent y) };
 }
 
 /// Finds declarations by walking from the table's start, each time anew.
@@ -95,6 +105,8 @@ impl<'f> Decls<'f> for Scanner<'f> {
 
     ghost follows = { λ s t. s ≡ t };
 
+    ghost counts = { λ s table code old new. new ≡ ticked_by (declarations_walked s table code) old };
+
     fn find<L>(
         &mut self,
         table: u32,
@@ -107,6 +119,8 @@ impl<'f> Decls<'f> for Scanner<'f> {
     ghost reflexive = { λ x. refl };
 
     ghost transitive = { λ x y z p q. Prim.cc };
+
+    ghost leaves = { λ x y same. left_alone x y same };
 }
 
 /// Walks from `table` to the first declaration with this code.
@@ -117,7 +131,9 @@ fn scan<'f, L>(
     steps: &mut Steps<L>,
 ) -> Result<Decl<'f>, FindFault>
     requires { table ≤ length section.now }
-    ensures { result ≡ first_declaration section.entry.now table code }
+    ensures answer { result ≡ first_declaration section.entry.now table code }
+    ensures counted { steps.new ≡ ticked_by (declarations_walked section.entry.now table code) steps.old }
+    ensures never_less { steps.old ≤ steps.new }
 {
     let mut place = table;
     'walk: loop {
@@ -139,10 +155,11 @@ fn scan<'f, L>(
 }
 
 /// The first declaration of a code is the one that the walk from the table's start meets first:
-/// before it stand declarations of other codes alone. One that was found stands at its place.
+/// before it stand declarations of other codes alone, and the walk reads those and one more. One
+/// that was found stands at its place.
 ///
 /// This is a law, for proofs; the call does nothing.
 pub fn first_declaration_is_first(section: &[u8], table: u64, code: u64)
-    ensures first { IsFirst section.now table code (first_declaration section.now table code) }
+    ensures first { IsFirst section.now table code (declarations_walked section.now table code) (first_declaration section.now table code) }
     ensures stands { IfOk (first_declaration section.now table code) (StandsInside section.now) }
 {}

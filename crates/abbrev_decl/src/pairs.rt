@@ -1,14 +1,15 @@
 //! The pairs of a declaration: which attributes an entry has, and in which forms.
 
-ghost use Rattle.std.specs.Prelude.{◌≡◌, ◌≤◌, ◌+◌, length, IfOk, OnOk};
-ghost use Rattle.dw_fields.specs.Reading.{Moves, Reads};
-ghost use Rattle.abbrev_decl.specs.Pairs.{EndAtFirstZeroPair, Onward, Skips, from, implicit_at, pair_at, pairs_at, retold};
+ghost use Rattle.std.specs.Prelude.{◌≡◌, ◌≤◌, ◌+◌, length, IfOk, IfSome, OnOk};
+ghost use Rattle.dw_fields.specs.Reading.{Moves, Onward, Reads};
+ghost use Rattle.abbrev_decl.specs.Pairs.{EndAtFirstZeroPair, Skips, from, implicit_at, in_table, pair_at, pairs_at, short_pair as pair_of_bytes};
 
 use dw_fields::{Code, Cut, Fault, Order, renamed};
+use dw_numbers::form;
 
 /// One pair of a declaration: an attribute and the form of its value.
 ///
-/// `implicit` is the value itself where the form is implicit_const (0x21), and 0 in any other form.
+/// `implicit` is the value itself where the form is implicit_const, and 0 in any other form.
 #[derive(Clone, Copy, Debug, PartialEq, Eq)]
 pub struct AttrSpec {
     /// The attribute's number.
@@ -21,6 +22,7 @@ pub struct AttrSpec {
 
 /// The bytes of a section from a place to the section's end. LEB128 and single bytes have no byte
 /// order.
+#[inline]
 pub(crate) fn whole(section: &[u8], place: u64) -> Cut<'_>
     requires { place ≤ length section.now }
     ensures { result ≡ from section.entry.now place }
@@ -28,9 +30,11 @@ pub(crate) fn whole(section: &[u8], place: u64) -> Cut<'_>
     Cut::new(section, place, section.len() as u64, Order::Little)
 }
 
-/// A field that passes the section's end is refused with 31, any other with its own number.
-pub(crate) fn retold<T>(read: Result<T, Fault>) -> Result<T, Fault>
-    ensures { result ≡ retold read }
+/// A field that passes the section's end is refused as a truncated declaration, any other with its
+/// own cause.
+#[inline]
+pub(crate) fn in_table<T>(read: Result<T, Fault>) -> Result<T, Fault>
+    ensures { result ≡ in_table read }
 {
     renamed(read, Code::Truncated, Code::DeclTruncated)
 }
@@ -41,8 +45,8 @@ fn read_implicit(cut: &mut Cut<'_>, form: u64) -> Result<i64, Fault>
     ensures field { Reads (λ x. x) result (implicit_at form) cut.old cut.new }
     ensures onward { OnOk result (Onward cut.old cut.new) }
 {
-    if form == 0x21 {
-        retold(cut.sleb())
+    if form == form::IMPLICIT_CONST {
+        in_table(cut.sleb())
     } else {
         Ok(0)
     }
@@ -50,12 +54,12 @@ fn read_implicit(cut: &mut Cut<'_>, form: u64) -> Result<i64, Fault>
 
 /// The pair at a cut; `None` is the pair 0, 0.
 #[tactic(auto, unfolding(crate::specs::Pairs::pair_at))]
-pub(crate) fn read_pair(cut: &mut Cut<'_>) -> Result<Option<AttrSpec>, Fault>
+fn read_any_pair(cut: &mut Cut<'_>) -> Result<Option<AttrSpec>, Fault>
     ensures field { Reads (λ x. x) result pair_at cut.old cut.new }
     ensures moves { OnOk result (Moves 2 cut.old cut.new) }
 {
-    let name = retold(cut.uleb())?;
-    let form = retold(cut.uleb())?;
+    let name = in_table(cut.uleb())?;
+    let form = in_table(cut.uleb())?;
     if name == 0 && form == 0 {
         return Ok(None);
     }
@@ -67,17 +71,67 @@ pub(crate) fn read_pair(cut: &mut Cut<'_>) -> Result<Option<AttrSpec>, Fault>
     }))
 }
 
-/// The place behind a declaration's pairs, which begin at `place`.
-pub(crate) fn skip_pairs(section: &[u8], place: u64) -> Result<u64, Fault>
+/// The same at a place, with the place behind it.
+fn read_long_pair(section: &[u8], place: u64) -> Result<(Option<AttrSpec>, u64), Fault>
     requires { place ≤ length section.now }
-    ensures answer { Skips result (pairs_at section.now place) }
-    ensures inside { IfOk result (λ next. (place + 2 ≤ next) × (next ≤ length section.now)) }
+    ensures answer { result ≡ pair_at (from section.now place) }
+    ensures inside { IfOk result (λ r. (place + 2 ≤ r.1) × (r.1 ≤ length section.now)) }
 {
     let mut cut = whole(section, place);
+    let pair = read_any_pair(&mut cut)?;
+    Ok((pair, cut.place()))
+}
+
+/// The name and the form of a pair of two bytes: each number has one, and none stands behind them.
+#[inline]
+fn short_pair(section: &[u8], place: u64) -> Option<(u8, u8)>
+    requires { place ≤ length section.now }
+    ensures { IfSome result (λ pair. (pair_at (from section.now place) ≡ Ok (pair_of_bytes pair.0 pair.1, place + 2)) × (place + 2 ≤ length section.now)) }
+{
+    match &section[place as usize..] {
+        [name, form, ..] => {
+            if *name < 128 && *form < 128 && u64::from(*form) != form::IMPLICIT_CONST {
+                Some((*name, *form))
+            } else {
+                None
+            }
+        }
+        _ => None,
+    }
+}
+
+/// The pair at a place and the place behind it; `None` is the pair 0, 0.
+#[inline]
+pub(crate) fn read_pair(section: &[u8], place: u64) -> Result<(Option<AttrSpec>, u64), Fault>
+    requires { place ≤ length section.now }
+    ensures answer { result ≡ pair_at (from section.now place) }
+    ensures inside { IfOk result (λ r. (place + 2 ≤ r.1) × (r.1 ≤ length section.now)) }
+{
+    match short_pair(section, place) {
+        Some((0, 0)) => Ok((None, place + 2)),
+        Some((name, form)) => Ok((
+            Some(AttrSpec {
+                name: u64::from(name),
+                form: u64::from(form),
+                implicit: 0,
+            }),
+            place + 2,
+        )),
+        None => read_long_pair(section, place),
+    }
+}
+
+/// The place behind a declaration's pairs, which begin at `start`.
+pub(crate) fn skip_pairs(section: &[u8], start: u64) -> Result<u64, Fault>
+    requires { start ≤ length section.now }
+    ensures answer { Skips result (pairs_at section.now start) }
+    ensures inside { IfOk result (λ next. (start + 2 ≤ next) × (next ≤ length section.now)) }
+{
+    let mut place = start;
     'pairs: loop {
-        match read_pair(&mut cut) {
-            Ok(Some(_)) => {}
-            Ok(None) => return Ok(cut.place()),
+        match read_pair(section, place) {
+            Ok((Some(_), next)) => place = next,
+            Ok((None, next)) => return Ok(next),
             Err(fault) => return Err(fault),
         }
     }

@@ -5,16 +5,17 @@ use Rattle.std.specs.Borrow.{Bor}
 use Rattle.dw_fields.specs.declared.byte_order.Order.{Order}
 use Rattle.dw_fields.specs.declared.fault_code.Code.{Code}
 use Rattle.dw_fields.specs.declared.fault_code.Code.TheVariants.{TextOutside, TextUnended, IndexOutside, NoBase, NoSection}
-use Rattle.dw_fields.specs.Reading.{number_of}
+use Rattle.dw_fields.specs.declared.fault_code.Fault.{Fault}
+use Rattle.dw_fields.specs.Codes.{fault}
+use Rattle.dw_fields.specs.Reading.{◌>>=◌, number_of}
 use Rattle.elf_sections.specs.Shapes.{SectionsView}
 use Rattle.form_values.specs.declared.raw.Bases.{Bases}
 use Rattle.form_values.specs.View.{RawView, Address, AddressIndex, Text, TextOffset, LineTextOffset, TextIndex, Offset, RangeIndex, LocationIndex}
 
--- one answer after another: the first cause is the answer
-infixl 10 ◌>>=◌
-abbrev pub ◌>>=◌ : {A B : Type 0} → Result A Code → (A → Result B Code) → Result B Code
-Ok a >>= f = f a
-Err e >>= f = Err e
+-- A cause is the refusal of a place.
+abbrev pub refused_at : {X : Type 0} → ℕ → Result X Code → Result X Fault
+refused_at place (Ok x) = Ok x
+refused_at place (Err code) = Err (fault code place)
 
 -- a base or a section that is needed, or the cause of its absence
 abbrev pub needed : {X : Type 0} → Code → Option X → Result X Code
@@ -93,7 +94,8 @@ text_of _ wide sections bases = Ok []
 -- Resolution of an address, of `size` bytes in the table.
 unfoldable pub address_of : RawView → ℕ → SectionsView → Bases → Result ℕ Code
 address_of (Address n) size sections bases = Ok n
-address_of (AddressIndex index) size sections bases = indexed_address index size sections bases.address
+address_of (AddressIndex index) size sections bases =
+    indexed_address index size sections bases.address
 address_of _ size sections bases = Ok 0
 
 -- Resolution of the place of a list: an offset is its own answer.

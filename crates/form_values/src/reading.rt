@@ -8,9 +8,9 @@ ghost use Rattle.form_values.specs.View.{raw_view, widths_of};
 ghost use Rattle.form_values.specs.FormTable.{low_at, middle_at, high_at, direct_at, indirect_at, value_at, value_fault};
 
 use crate::counted::{counted_by_u8, counted_by_u16, counted_by_u32, counted_by_uleb};
-use crate::form;
 use crate::raw::{Raw, Widths};
 use dw_fields::{Code, Cut, Fault};
+use dw_numbers::form;
 use unit_headers::UnitHeader;
 
 /// Reads the value of the attribute that stands next in an entry of this unit. `implicit` is the number
@@ -33,7 +33,8 @@ pub fn read_value<'f>(
     implicit: i64,
 ) -> Result<Raw<'f>, Fault>
     requires { IsAddressSize header.now.address_size }
-    ensures value { Gives raw_view result (value_at form (widths_of header.now) implicit) cut.old cut.new }
+    ensures value { Gives raw_view result (value_at form (widths_of header.now) implicit)
+        cut.old cut.new }
     ensures forward { OnOk result (cut.old.place ≤ cut.new.place) }
 {
     read_form(cut, form, Widths::of(header), implicit)
@@ -73,10 +74,7 @@ fn indirect<'f>(cut: &mut Cut<'f>, widths: Widths) -> Result<Raw<'f>, Fault>
     let mut ahead = cut.fork();
     let form = ahead.uleb()?;
     if form == form::INDIRECT || form == form::IMPLICIT_CONST {
-        return Err(Fault {
-            code: Code::IndirectForm,
-            place,
-        });
+        return Err(Fault::at(Code::IndirectForm, place));
     }
     match direct(&mut ahead, form, widths) {
         Ok(raw) => {
@@ -92,10 +90,7 @@ fn fault_of_value(place: u64, fault: Fault) -> Fault
     ensures { result ≡ value_fault place fault }
 {
     match fault.code {
-        Code::UnknownForm | Code::TextUnended => Fault {
-            code: fault.code,
-            place,
-        },
+        Code::UnknownForm | Code::TextUnended => Fault::at(fault.code, place),
         _ => fault,
     }
 }
@@ -121,10 +116,7 @@ fn direct<'f>(cut: &mut Cut<'f>, form: u64, widths: Widths) -> Result<Raw<'f>, F
 fn unknown_form(cut: &Cut<'_>) -> Fault
     ensures { result ≡ fault causes.UnknownForm cut.now.place }
 {
-    Fault {
-        code: Code::UnknownForm,
-        place: cut.place(),
-    }
+    Fault::at(Code::UnknownForm, cut.place())
 }
 
 /// The forms 0x01 to 0x0f.

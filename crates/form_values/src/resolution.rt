@@ -30,7 +30,8 @@ pub fn resolve_text<'f>(
     bases: &Bases,
 ) -> Result<&'f [u8], Code>
     requires { IsTrue (is_text (raw_view raw.now)) }
-    ensures { SameText result (text_of (raw_view raw.entry.now) header.now.wide (sections_view sections.entry.now) bases.now) }
+    ensures { SameText result (text_of (raw_view raw.entry.now) header.now.wide
+        (sections_view sections.entry.now) bases.now) }
 {
     match *raw {
         Raw::Text(text) => Ok(text),
@@ -58,7 +59,8 @@ pub fn resolve_address(
 ) -> Result<u64, Code>
     requires kind { IsTrue (is_address (raw_view raw.now)) }
     requires size { IsAddressSize header.now.address_size }
-    ensures { result ≡ address_of (raw_view raw.entry.now) header.now.address_size (sections_view sections.entry.now) bases.now }
+    ensures { result ≡ address_of (raw_view raw.entry.now) header.now.address_size
+        (sections_view sections.entry.now) bases.now }
 {
     match *raw {
         Raw::Address(address) => Ok(address),
@@ -89,7 +91,8 @@ pub fn resolve_list(
     bases: &Bases,
 ) -> Result<u64, Code>
     requires { IsTrue (is_list (raw_view raw.now)) }
-    ensures { result ≡ list_of (raw_view raw.entry.now) header.now.wide (sections_view sections.entry.now) bases.now }
+    ensures { result ≡ list_of (raw_view raw.entry.now) header.now.wide
+        (sections_view sections.entry.now) bases.now }
 {
     match *raw {
         Raw::Offset(offset) => Ok(offset),
@@ -136,10 +139,8 @@ fn indexed_text<'f>(
     let (Some(table), Some(texts)) = (sections.text_offsets, sections.text) else {
         return Err(Code::NoSection);
     };
-    match word(table, sections.order, offset_bytes(wide), base, index) {
-        Ok(offset) => text_at_offset(texts, offset),
-        Err(cause) => Err(cause),
-    }
+    let offset = word(table, sections.order, offset_bytes(wide), base, index)?;
+    text_at_offset(texts, offset)
 }
 
 /// The address that stands in `.debug_addr`.
@@ -179,11 +180,9 @@ fn indexed_list(
     let Some(table) = section else {
         return Err(Code::NoSection);
     };
-    match word(table, order, offset_bytes(wide), base, index) {
-        Ok(offset) => match base.checked_add(offset) {
-            Some(place) => Ok(place),
-            None => Err(Code::IndexOutside),
-        },
-        Err(cause) => Err(cause),
+    let offset = word(table, order, offset_bytes(wide), base, index)?;
+    match base.checked_add(offset) {
+        Some(place) => Ok(place),
+        None => Err(Code::IndexOutside),
     }
 }

@@ -1,10 +1,11 @@
 //! Texts, and words of tables, in sections that may be absent.
 
-ghost use Rattle.std.specs.Prelude.{◌≡◌, ◌+◌, ◌≤◌, ◌<◌, ◌==◌, length, option_map, position, IfSome};
+ghost use Rattle.std.specs.Prelude.{◌≡◌, ◌+◌, ◌≤◌, option_map, IfSome};
 ghost use Rattle.form_values.specs.Resolved.{SameText, text_from, text_in as text_within, word_at, word_place_of};
 ghost use Rattle.dw_fields.specs.Reading.{IsAddressSize};
 
 use dw_fields::{Code, Cut, Order};
+use string_tables::first_zero;
 
 /// The text that begins at an offset of a section, `.debug_str` or `.debug_line_str`, without the zero
 /// byte that ends it.
@@ -32,18 +33,10 @@ pub fn text_at_offset<'f>(section: &'f [u8], offset: u64) -> Result<&'f [u8], Co
         return Err(Code::TextOutside);
     }
     let rest = &section[offset as usize..];
-    match zero_place(rest) {
+    match first_zero(rest) {
         Some(end) => Ok(&rest[..end]),
         None => Err(Code::TextUnended),
     }
-}
-
-/// The place of the first zero byte.
-fn zero_place(bytes: &[u8]) -> Option<usize>
-    ensures place { result ≡ position (λ b. b == 0) bytes.now }
-    ensures within { IfSome result (λ n. n < length bytes.now) }
-{
-    bytes.iter().position(|byte| *byte == 0)
 }
 
 /// The place of the word that an index names in a table, where the whole word is within `length` bytes.

@@ -13,7 +13,7 @@ use Rattle.line_machine.specs.declared.operations.Operation.{Operation}
 use Rattle.line_machine.specs.declared.operations.Operation.TheVariants as ops
 use Rattle.line_machine.specs.Machine.{fresh}
 use Rattle.line_machine.specs.Operations.{in_program, with, passed_over, standard_at, within_at, extended_at, operation_at}
-use Rattle.line_machine.specs.Running.{stepped_at, line_rows, IsRun}
+use Rattle.line_machine.specs.Running.{step_at, line_rows, IsRun}
 
 -- the place behind an answer is at least this one
 abbrev From : {X : Type 0} → ℕ → Result (X × ℕ) Fault → Type 0
@@ -94,14 +94,14 @@ operation_from h lengths s =
     (From-either (opcode.0 == 0) (s.place + 1) _ _ (From-less (s.place + 1) opcode.1 _ le (extended_from (at s opcode.1)))
     (From-less (s.place + 1) opcode.1 _ le (From-in_program opcode.1 (standard_at lengths opcode.0 (at s opcode.1)) (standard_from lengths opcode.0 (at s opcode.1))))))
 
-stepped_from : (h : Program) (lengths : List ℕ) (registers : Row) (s : Span) → From (s.place + 1) (stepped_at h lengths registers s)
-unfolding stepped_at
-stepped_from h lengths registers s =
+step_from : (h : Program) (lengths : List ℕ) (registers : Row) (s : Span) → From (s.place + 1) (step_at h lengths registers s)
+unfolding step_at
+step_from h lengths registers s =
     next-IfOk (λ r. s.place + 1 ≤ r.1) (λ r. s.place + 1 ≤ r.1) (operation_at h lengths s) _ (operation_from h lengths s) (λ operation le. le)
 
 -- one turn in front of a run
 one_more : (h : Program) (lengths : List ℕ) (registers after : Row) (s : Span) (made : List Row) (next : ℕ) (answer : Result (List Row) Fault)
-    → s.place < s.end → stepped_at h lengths registers s ≡ Ok ((after, made), next) → IsRun h lengths after (at s next) answer
+    → s.place < s.end → step_at h lengths registers s ≡ Ok ((after, made), next) → IsRun h lengths after (at s next) answer
     → IsRun h lengths registers s (answer >>= (λ others. Ok (made ++ others)))
 one_more h lengths registers after s made next (Ok all) inside e run = record {
   turns = suc run.turns;
@@ -121,7 +121,7 @@ one_more h lengths registers after s made next (Err f) inside e run = record {
 }
 
 turn : (h : Program) (lengths : List ℕ) (registers : Row) (s : Span) (found : Result ((Row × List Row) × ℕ) Fault) (others : Row → ℕ → Result (List Row) Fault)
-    → s.place < s.end → stepped_at h lengths registers s ≡ found → From (s.place + 1) found
+    → s.place < s.end → step_at h lengths registers s ≡ found → From (s.place + 1) found
     → ((after : Row) (next : ℕ) → s.place < next → IsRun h lengths after (at s next) (others after next))
     → IsRun h lengths registers s (found >>= (λ read. others read.0.0 read.1 >>= (λ rest. Ok (read.0.1 ++ rest))))
 turn h lengths registers s (Ok ((after, made), next)) others inside e from rest = one_more h lengths registers after s made next (others after next) inside e (rest after next (omega arith))
@@ -133,14 +133,14 @@ stopped h lengths registers s past = record { turns = 0; rows = []; last = regis
 IsRun-same : (h : Program) (lengths : List ℕ) (registers : Row) (s : Span) (a b : Result (List Row) Fault) → a ≡ b → IsRun h lengths registers s a → IsRun h lengths registers s b
 IsRun-same h lengths registers s a b e run = let P : Result (List Row) Fault → Type 0 = λ r. IsRun h lengths registers s r in subst P e run
 
-run_from : (n : ℕ) (h : Program) (lengths : List ℕ) (registers : Row) (s : Span) → s.end ≤ s.place + n → IsRun h lengths registers s (walk (stepped_at h lengths) n registers s)
+run_from : (n : ℕ) (h : Program) (lengths : List ℕ) (registers : Row) (s : Span) → s.end ≤ s.place + n → IsRun h lengths registers s (walk (step_at h lengths) n registers s)
 unfolding walk
 run_from zero h lengths registers s fits = stopped h lengths registers s (omega arith)
 run_from (suc n) h lengths registers s fits =
     elim (leb_tells s.end s.place) [
       | inl past ↦ rw past.0 (stopped h lengths registers s past.1)
-      | inr before ↦ rw before.0 (turn h lengths registers s (stepped_at h lengths registers s) (λ after next. walk (stepped_at h lengths) n after (at s next)) before.1 refl
-          (stepped_from h lengths registers s) (λ after next further. run_from n h lengths after (at s next) (omega arith)))
+      | inr before ↦ rw before.0 (turn h lengths registers s (step_at h lengths registers s) (λ after next. walk (step_at h lengths) n after (at s next)) before.1 refl
+          (step_from h lengths registers s) (λ after next further. run_from n h lengths after (at s next) (omega arith)))
     ]
 
 -- the rows of a program are those of a run from its start

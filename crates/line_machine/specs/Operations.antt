@@ -1,9 +1,9 @@
 -- The operations of a line program as they stand in its bytes: DWARF 5, sections 6.2.5.1 to 6.2.5.3.
-use Rattle.std.specs.Prelude.{ℕ, zero, suc, ◌+◌, ◌-◌, ◌≤◌, ◌==◌, ◌||◌, nat_lt, nat_le, List, Result, Ok, Err, if◌then◌else◌, slice_index}
+use Rattle.std.specs.Prelude.{ℕ, zero, suc, ◌+◌, ◌-◌, ◌==◌, ◌||◌, nat_lt, nat_le, List, Result, Ok, Err, if◌then◌else◌, slice_index}
 use Rattle.dw_fields.specs.declared.fault_code.Fault.{Fault}
 use Rattle.dw_fields.specs.declared.fault_code.Code.TheVariants.{Truncated, LineTruncated, ExtendedLength}
 use Rattle.dw_fields.specs.Codes.{fault, is_same_code}
-use Rattle.dw_fields.specs.Span.{Span, at, until}
+use Rattle.dw_fields.specs.Span.{at, until}
 use Rattle.dw_fields.specs.Reading.{Reader, ◌>>=◌, renamed, number_at, uleb_at, sleb_at}
 use Rattle.line_machine.specs.declared.registers.Program.{Program}
 use Rattle.line_machine.specs.declared.operations.Operation.{Operation}
@@ -55,7 +55,8 @@ standard_at lengths opcode s =
 -- An address takes all that is left of its operation, whose length stands at `place`.
 unfoldable pub set_address_at : ℕ → Reader Operation
 set_address_at place s =
-    if (s.end - s.place == 2) || (s.end - s.place == 4) || (s.end - s.place == 8) then with ops.SetAddress (number_at (s.end - s.place) s)
+    if (s.end - s.place == 2) || (s.end - s.place == 4) || (s.end - s.place == 8)
+    then with ops.SetAddress (number_at (s.end - s.place) s)
     else Err (fault ExtendedLength place)
 
 -- What stands inside an extended operation, whose length stands at `place`.
@@ -84,8 +85,3 @@ operation_at h lengths s = do
   (if nat_le h.opcode_base opcode.0 then Ok (ops.Special (opcode.0 - h.opcode_base), opcode.1)
       else (if opcode.0 == 0 then extended_at (at s opcode.1)
       else in_program (standard_at lengths opcode.0 (at s opcode.1))))
-
--- A cut that went on, or stayed, inside its end.
-pub record Onward (old new : Span) : Type 0 where
-  pub forward : old.place ≤ new.place
-  pub inside : old.place ≤ old.end → new.place ≤ old.end

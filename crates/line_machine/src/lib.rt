@@ -1,4 +1,4 @@
-//! The machine of line programs (DWARF 5, section 6.2): its registers, its operations, and the rows
+//! The machine of line programs (DWARF 5 section 6.2): its registers, its operations, and the rows
 //! that a program appends.
 //!
 //! An operation is read (`specs/Operations.antt`) and then done (`specs/Machine.antt`): each step is

@@ -1,13 +1,15 @@
-//! What each operation does.
+//! What each operation does (DWARF 5 section 6.2.5).
 
 ghost use Rattle.std.specs.Prelude.{◌≡◌, ℕ, ◌/◌, ◌%◌, ◌*◌, ◌^◌, ◌<◌, true};
-ghost use Rattle.dw_fields.specs.Reading.{IsAddressSize};
-ghost use Rattle.line_machine.specs.Machine.{IsRunnable, advanced, cleared, fresh as fresh_of, line_step, moved, special, wrapped};
+ghost use Rattle.dw_fields.specs.Reading.{IsAddressSize, wrapped_address};
+ghost use Rattle.line_machine.specs.Machine.{IsRunnable, advanced, cleared, fresh as fresh_of, line_step, moved, special};
 
 use crate::operations::Operation;
 use crate::registers::{Program, Row, clear, fresh};
+use dw_fields::wrap_address;
 
-/// Does one operation on the registers, and answers the row that it appends (DWARF 5, section 6.2.5).
+/// Does one operation on the registers, and answers the row that it appends (DWARF 5 section
+/// 6.2.5).
 #[inline]
 #[tactic(auto, unfolding(crate::specs::Machine::line_step))]
 pub fn step(program: &Program, registers: &mut Row, operation: Operation) -> Option<Row>
@@ -63,7 +65,7 @@ pub fn step(program: &Program, registers: &mut Row, operation: Operation) -> Opt
         }
         Operation::EndSequence => Some(end_sequence(program, registers)),
         Operation::SetAddress(address) => {
-            registers.address = wrapped(u128::from(address), program.address_size);
+            registers.address = wrap_address(u128::from(address), program.address_size);
             registers.op_index = 0;
             None
         }
@@ -117,7 +119,7 @@ fn advance(program: &Program, registers: &mut Row, count: u64)
     let packed = pack(operations, program.max_ops);
     let address = u128::from(registers.address)
         + u128::from(program.min_length) * packed.instructions;
-    registers.address = wrapped(address, program.address_size);
+    registers.address = wrap_address(address, program.address_size);
     registers.op_index = packed.op_index;
 }
 
@@ -128,7 +130,8 @@ struct Packed {
     op_index: u64,
 }
 
-/// Packs operations into instructions of at most so many. Most machines have one operation in each: these divide nothing.
+/// Packs operations into instructions of at most so many. Most machines have one operation in each:
+/// these divide nothing.
 #[inline]
 fn pack(operations: u128, max_ops: u8) -> Packed
     requires { 0 < max_ops }
@@ -156,7 +159,7 @@ fn move_address(program: &Program, registers: &mut Row, count: u64)
     ensures { registers.new ≡ moved program.now registers.old count }
 {
     let address = u128::from(registers.address) + u128::from(count);
-    registers.address = wrapped(address, program.address_size);
+    registers.address = wrap_address(address, program.address_size);
     registers.op_index = 0;
 }
 
@@ -175,18 +178,4 @@ fn advance_special(program: &Program, registers: &mut Row, above: u64)
         .wrapping_add_signed(i64::from(program.line_base));
     registers.line = based.wrapping_add(above % range);
     advance(program, registers, above / range);
-}
-
-/// An address of so many bytes.
-#[inline]
-#[tactic(auto, unfolding(crate::specs::Machine::wrapped))]
-fn wrapped(address: u128, size: u8) -> u64
-    requires { IsAddressSize size }
-    ensures { result ≡ wrapped size address }
-{
-    match size {
-        2 => (address % 0x1_0000) as u64,
-        4 => (address % 0x1_0000_0000) as u64,
-        _ => (address % 0x1_0000_0000_0000_0000) as u64,
-    }
 }

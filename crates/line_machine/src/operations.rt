@@ -1,35 +1,44 @@
-//! The operations of a line program as they stand in its bytes.
+//! The operations of a line program as they stand in its bytes (DWARF 5 section 6.2.5).
 
 ghost use Rattle.std.specs.Prelude.{◌≡◌, ℕ, ◌+◌, ◌-◌, ◌<◌, ◌≤◌, length, OnOk};
-ghost use Rattle.dw_fields.specs.Reading.{Moves, Reads, number_at};
-ghost use Rattle.line_machine.specs.Operations.{Onward, extended_at, in_operation, in_program, operation_at, overlong, passed_over, set_address_at, standard_at, within_at};
+ghost use Rattle.dw_fields.specs.Reading.{Moves, Onward, Reads, number_at};
+ghost use Rattle.line_machine.specs.Operations.{extended_at, in_operation, in_program, operation_at, overlong, passed_over, set_address_at, standard_at, within_at};
 
 use crate::registers::Program;
 use dw_fields::{Code, Cut, Fault, renamed};
 
-/// An operation with its operands.
+/// An operation with its operands (DWARF 5 sections 6.2.5.1 to 6.2.5.3).
 #[derive(Clone, Copy, Debug, PartialEq, Eq)]
 pub enum Operation {
-    /// Appends a row.
+    /// `DW_LNS_copy`: appends a row.
     Copy,
-    /// Advances by operations.
+    /// `DW_LNS_advance_pc`: advances by so many operations.
     AdvancePc(u64),
-    /// Advances the line.
+    /// `DW_LNS_advance_line`: advances the line.
     AdvanceLine(i64),
+    /// `DW_LNS_set_file`: sets the file.
     SetFile(u64),
+    /// `DW_LNS_set_column`: sets the column.
     SetColumn(u64),
+    /// `DW_LNS_negate_stmt`: turns `stmt` over.
     NegateStmt,
+    /// `DW_LNS_set_basic_block`: a basic block begins.
     SetBasicBlock,
-    /// Advances as the special opcode 255 would.
+    /// `DW_LNS_const_add_pc`: advances as the special opcode 255 would, and appends no row.
     ConstAddPc,
-    /// Advances by bytes.
+    /// `DW_LNS_fixed_advance_pc`: advances the address by so many bytes.
     FixedAdvancePc(u64),
+    /// `DW_LNS_set_prologue_end`: a prologue ends.
     SetPrologueEnd,
+    /// `DW_LNS_set_epilogue_begin`: an epilogue begins.
     SetEpilogueBegin,
+    /// `DW_LNS_set_isa`: sets the instruction set.
     SetIsa(u64),
-    /// Appends the last row of a sequence.
+    /// `DW_LNE_end_sequence`: appends the last row of a sequence.
     EndSequence,
+    /// `DW_LNE_set_address`: sets the address.
     SetAddress(u64),
+    /// `DW_LNE_set_discriminator`: sets the discriminator.
     SetDiscriminator(u64),
     /// The special opcode that is so many above the first.
     Special(u64),
@@ -61,32 +70,31 @@ pub fn read_operation(
         return Ok(Operation::Special(u64::from(opcode - program.opcode_base)));
     }
     if opcode == 0 {
-        return extended(cut);
+        return read_extended(cut);
     }
-    in_program(standard(cut, opcode, lengths))
+    in_program(read_standard(cut, opcode, lengths))
 }
 
-/// 41 becomes 53.
+/// A field that passes the program's end: `Truncated` becomes `LineTruncated`.
 fn in_program<T>(read: Result<T, Fault>) -> Result<T, Fault>
     ensures { result ≡ in_program read }
 {
     renamed(read, Code::Truncated, Code::LineTruncated)
 }
 
+/// An operand that passes its extended operation is refused at the operation's length, which stands
+/// at `place`: `Truncated` becomes `ExtendedLength`.
 fn overlong(place: u64, fault: Fault) -> Fault
     ensures { result ≡ overlong place fault }
 {
-    if fault.code.number() == Code::Truncated.number() {
-        Fault {
-            code: Code::ExtendedLength,
-            place,
-        }
+    if fault.code == Code::Truncated {
+        Fault::at(Code::ExtendedLength, place)
     } else {
         fault
     }
 }
 
-/// 41 becomes 55 at the length of the extended operation, which stands at `place`.
+/// The answer of a reader inside an extended operation whose length stands at `place`.
 fn in_operation<T>(place: u64, read: Result<T, Fault>) -> Result<T, Fault>
     ensures { result ≡ in_operation place read }
 {
@@ -98,7 +106,7 @@ fn in_operation<T>(place: u64, read: Result<T, Fault>) -> Result<T, Fault>
 
 /// The operands of a standard opcode.
 #[tactic(auto, unfolding(crate::specs::Operations::standard_at))]
-fn standard(cut: &mut Cut<'_>, opcode: u8, lengths: &[u8]) -> Result<Operation, Fault>
+fn read_standard(cut: &mut Cut<'_>, opcode: u8, lengths: &[u8]) -> Result<Operation, Fault>
     requires some { 0 < opcode }
     requires inside { opcode ≤ length lengths.now }
     ensures field { Reads (λ x. x) result (standard_at lengths.now opcode) cut.old cut.new }
@@ -127,49 +135,40 @@ fn pass_operands(cut: &mut Cut<'_>, count: u8) -> Result<Operation, Fault>
     ensures onward { OnOk result (Onward cut.old cut.new) }
 {
     for _turn in 0..count {
-        match cut.uleb() {
-            Ok(_) => {}
-            Err(fault) => return Err(fault),
-        }
+        let _operand = cut.uleb()?;
     }
     Ok(Operation::Nothing)
 }
 
 /// An extended operation behind its opcode 0.
 #[tactic(auto, unfolding(crate::specs::Operations::extended_at))]
-fn extended(cut: &mut Cut<'_>) -> Result<Operation, Fault>
+fn read_extended(cut: &mut Cut<'_>) -> Result<Operation, Fault>
     ensures field { Reads (λ x. x) result extended_at cut.old cut.new }
     ensures moves { OnOk result (Moves 1 cut.old cut.new) }
 {
     let place = cut.place();
     let count = in_program(cut.uleb())?;
     if count == 0 {
-        return Err(Fault {
-            code: Code::ExtendedLength,
-            place,
-        });
+        return Err(Fault::at(Code::ExtendedLength, place));
     }
     if cut.left() < count {
-        return Err(Fault {
-            code: Code::LineTruncated,
-            place: cut.place(),
-        });
+        return Err(Fault::at(Code::LineTruncated, cut.place()));
     }
     let mut inside = cut.front(count);
-    let operation = within(&mut inside, place)?;
+    let operation = read_within(&mut inside, place)?;
     cut.pass(count);
     Ok(operation)
 }
 
 /// What stands inside an extended operation, whose length stands at `place`.
 #[tactic(auto, unfolding(crate::specs::Operations::within_at))]
-fn within(cut: &mut Cut<'_>, place: u64) -> Result<Operation, Fault>
+fn read_within(cut: &mut Cut<'_>, place: u64) -> Result<Operation, Fault>
     ensures { Reads (λ x. x) result (within_at place) cut.old cut.new }
 {
     let kind = in_operation(place, cut.u8())?;
     match kind {
         1 => Ok(Operation::EndSequence),
-        2 => set_address(cut, place),
+        2 => read_address(cut, place),
         4 => Ok(Operation::SetDiscriminator(in_operation(place, cut.uleb())?)),
         _ => Ok(Operation::Nothing),
     }
@@ -177,16 +176,13 @@ fn within(cut: &mut Cut<'_>, place: u64) -> Result<Operation, Fault>
 
 /// The address takes all that is left of its operation.
 #[tactic(auto, unfolding(crate::specs::Operations::set_address_at))]
-fn set_address(cut: &mut Cut<'_>, place: u64) -> Result<Operation, Fault>
+fn read_address(cut: &mut Cut<'_>, place: u64) -> Result<Operation, Fault>
     ensures { Reads (λ x. x) result (set_address_at place) cut.old cut.new }
 {
     match cut.left() {
         2 => Ok(Operation::SetAddress(u64::from(cut.u16()?))),
         4 => Ok(Operation::SetAddress(u64::from(cut.u32()?))),
         8 => Ok(Operation::SetAddress(cut.u64()?)),
-        _ => Err(Fault {
-            code: Code::ExtendedLength,
-            place,
-        }),
+        _ => Err(Fault::at(Code::ExtendedLength, place)),
     }
 }

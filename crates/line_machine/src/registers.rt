@@ -3,7 +3,7 @@
 ghost use Rattle.std.specs.Prelude.{◌≡◌};
 ghost use Rattle.line_machine.specs.Machine.{cleared, fresh};
 
-/// A row of the line table; the machine's registers have the same fields (DWARF 5, section 6.2.2).
+/// A row of the line table; the machine's registers have the same fields (DWARF 5 section 6.2.2).
 #[derive(Clone, Copy, Debug, PartialEq, Eq)]
 pub struct Row {
     /// The address of an instruction, or of its first operation.
@@ -32,7 +32,7 @@ pub struct Row {
     pub end: bool,
 }
 
-/// What a line program's header tells its machine (DWARF 5, section 6.2.4), and the unit's address
+/// What a line program's header tells its machine (DWARF 5 section 6.2.4), and the unit's address
 /// size in bytes.
 #[derive(Clone, Copy, Debug, PartialEq, Eq)]
 pub struct Program {

@@ -1,10 +1,10 @@
-//! A line program run from its first byte to its end.
+//! A line program run from its first byte to its end (DWARF 5 section 6.2).
 
 ghost use Rattle.std.specs.Prelude.{◌≡◌, ◌+◌, ◌≤◌, [], ◌++◌, length, IfOk, OnOk, option_to_list};
 ghost use Rattle.dw_fields.specs.Reading.{Moves, Reads};
 ghost use Rattle.unit_headers.specs.Refusals.{Answers};
 ghost use Rattle.line_machine.specs.Machine.{IsRunnable, fresh as fresh_of};
-ghost use Rattle.line_machine.specs.Running.{IsRun, line_rows, outcome, stepped_at};
+ghost use Rattle.line_machine.specs.Running.{IsRun, line_rows, outcome, step_at};
 
 use crate::machine::step;
 use crate::operations::read_operation;
@@ -20,7 +20,7 @@ const ROOM: u64 = 65_536;
 /// operands, from opcode 1 on.
 ///
 /// # Errors
-/// Those of `read_operation`, at the first operation that is refused.
+/// Those of [`read_operation`] at the first operation that is refused, or want of memory.
 #[tactic(auto, using(crate::proofs::Turns::rows_start))]
 pub fn rows(
     alloc: Global,
@@ -33,23 +33,14 @@ pub fn rows(
     ensures { Answers (λ v. v.items) result (line_rows program.now lengths.now cut.entry) }
 {
     let left = cut.left();
-    let mut rows = match room(alloc, left) {
-        Ok(rows) => rows,
-        Err(_) => return Err(UnitRefusal::OutOfMemory),
-    };
+    let mut rows = room(alloc, left)?;
     let mut registers = fresh(program);
     'program: for _turn in 0..left {
         if cut.left() == 0 {
             return Ok(rows);
         }
-        let row = match stepped(&mut cut, program, lengths, &mut registers) {
-            Ok(row) => row,
-            Err(fault) => return Err(UnitRefusal::Refused(fault)),
-        };
-        match keep(&mut rows, row) {
-            Ok(()) => {}
-            Err(_) => return Err(UnitRefusal::OutOfMemory),
-        }
+        let row = read_step(&mut cut, program, lengths, &mut registers)?;
+        keep(&mut rows, row)?;
     }
     Ok(rows)
 }
@@ -63,8 +54,8 @@ fn room(alloc: Global, bytes: u64) -> Result<Vec<Row>, AllocError>
 
 /// Reads an operation and does it.
 #[inline]
-#[tactic(auto, unfolding(crate::specs::Running::stepped_at))]
-fn stepped(
+#[tactic(auto, unfolding(crate::specs::Running::step_at))]
+fn read_step(
     cut: &mut Cut<'_>,
     program: &Program,
     lengths: &[u8],
@@ -72,24 +63,21 @@ fn stepped(
 ) -> Result<Option<Row>, Fault>
     requires runnable { IsRunnable program.now }
     requires known { program.now.opcode_base ≤ length lengths.now + 1 }
-    ensures field { Reads (λ row. outcome (registers.new, row)) result (stepped_at program.now lengths.now registers.old) cut.old cut.new }
+    ensures field { Reads (λ row. outcome (registers.new, row)) result
+        (step_at program.now lengths.now registers.old) cut.old cut.new }
     ensures moves { OnOk result (Moves 1 cut.old cut.new) }
 {
-    match read_operation(cut, program, lengths) {
-        Ok(operation) => Ok(step(program, registers, operation)),
-        Err(fault) => Err(fault),
-    }
+    let operation = read_operation(cut, program, lengths)?;
+    Ok(step(program, registers, operation))
 }
 
+/// Puts the row behind the others, where there is one.
 #[inline]
 fn keep(rows: &mut Vec<Row>, row: Option<Row>) -> Result<(), AllocError>
     ensures { OnOk result (rows.new.items ≡ rows.old.items ++ option_to_list row) }
 {
     match row {
-        Some(row) => match rows.push(row) {
-            Ok(()) => Ok(()),
-            Err(_) => Err(AllocError),
-        },
+        Some(row) => Ok(rows.push(row)?),
         None => Ok(()),
     }
 }
@@ -99,5 +87,6 @@ fn keep(rows: &mut Vec<Row>, row: Option<Row>) -> Result<(), AllocError>
 ///
 /// This is a law, for proofs; the call does nothing.
 pub fn rows_are_those_of_the_operations(cut: &Cut<'_>, program: &Program, lengths: &[u8])
-    ensures { IsRun program.now lengths.now (fresh_of program.now) cut.now (line_rows program.now lengths.now cut.now) }
+    ensures { IsRun program.now lengths.now (fresh_of program.now) cut.now
+        (line_rows program.now lengths.now cut.now) }
 {}

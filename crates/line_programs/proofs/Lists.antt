@@ -1,11 +1,14 @@
 -- Laws of the lists of a header.
-use Rattle.std.proofs.Common.{◌≡◌, ℕ, suc, ◌≤◌, length, take, List, [], ◌∷◌, ◌++◌, map, refl, ap, ◌∙◌}
+use Rattle.std.proofs.Common.{◌≡◌, ℕ, suc, ◌≤◌, length, take, List, [], ◌∷◌, ◌++◌, map, refl, sym, ap, ◌∙◌}
 use Rattle.dw_fields.specs.declared.fault_code.Fault.{Fault}
 use Rattle.dw_fields.specs.Span.{Span, at}
-use Rattle.dw_fields.specs.Reading.{Reader}
-use Rattle.dw_fields.specs.Times.{times, with_front, times_next}
+use Rattle.dw_fields.specs.Reading.{Reader, ◌>>=◌}
+use Rattle.dw_fields.specs.Times.{times, with_front, times_fails, times_next}
 use Rattle.std.proofs.lemmas.List.{take_all}
 use Rattle.std.specs.Prelude.{Result, Ok}
+use Rattle.unit_headers.specs.declared.refusal.UnitRefusal.{UnitRefusal}
+use Rattle.unit_headers.specs.declared.refusal.UnitRefusal.TheVariants.{Refused, OutOfMemory}
+use Rattle.unit_headers.specs.Refusals.{Refuses}
 use Rattle.line_programs.specs.declared.names.FileName.{FileName}
 use Rattle.line_programs.specs.Shapes.{name_view}
 
@@ -30,3 +33,14 @@ paths_of (name ∷ names) = ap (λ paths. name.path.now ∷ paths) (paths_of nam
 pub paths_end : (paths : List (List ℕ)) (names : List FileName) (taken : ℕ) → length names ≤ taken
     → paths ≡ map (λ n. n.path.now) (take taken names) → paths ≡ map (λ d. d.path) (map name_view names)
 paths_end paths names taken all p = p ∙ ap (map (λ n. n.path.now)) (take_all taken names all) ∙ paths_of names
+
+-- what refuses an answer refuses what goes on from it
+pub refused_then : {A B : Type 0} → (read : Result A Fault) (f : A → Result B Fault) (e : UnitRefusal) → Refuses e read → Refuses e (read >>= f)
+refused_then read f (Refused fault) refused = rw refused refl
+refused_then read f OutOfMemory refused = tt
+
+-- a value that is refused refuses all
+pub turn_refused : {X : Type 0} → (read : Reader X) (m n : ℕ) (s : Span) (front : List X) (e : UnitRefusal) (all : Result (List X × ℕ) Fault)
+    → m ≡ suc n → Refuses e (read s) → with_front front (times m read s) ≡ all → Refuses e all
+turn_refused read m n s front (Refused f) all turns refused w = sym w ∙ times_fails read m n s front f turns refused
+turn_refused read m n s front OutOfMemory all turns refused w = tt

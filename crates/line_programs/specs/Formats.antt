@@ -14,18 +14,21 @@ is_path_form form = (form == 0x08) || (form == 0x0e) || (form == 0x1f)
 
 -- data1, data2, data4, data8, udata
 unfoldable pub is_index_form : ℕ → Bool
-is_index_form form = (form == 0x0b) || (form == 0x05) || (form == 0x06) || (form == 0x07) || (form == 0x0f)
+is_index_form form =
+    (form == 0x0b) || (form == 0x05) || (form == 0x06) || (form == 0x07) || (form == 0x0f)
 
 -- Every form of the standard but flag_present, which takes no byte, indirect and implicit_const. There
 -- is no form 2.
 unfoldable pub is_profile_form : ℕ → Bool
 is_profile_form form =
-    nat_lt 0 form && nat_lt form 0x2d && not (form == 0x02) && not (form == 0x16) && not (form == 0x19) && not (form == 0x21)
+    nat_lt 0 form && nat_lt form 0x2d && not (form == 0x02) && not (form == 0x16)
+    && not (form == 0x19) && not (form == 0x21)
 
 -- Which forms the content types 1 (path) and 2 (directory index) may have, and any other.
 unfoldable pub is_accepted : ℕ → ℕ → Bool
 is_accepted content form =
-    if content == 1 then is_path_form form else (if content == 2 then is_index_form form else is_profile_form form)
+    if content == 1 then is_path_form form
+    else (if content == 2 then is_index_form form else is_profile_form form)
 
 -- A content type and its form, which is judged at once.
 unfoldable pub format_at : Reader Format

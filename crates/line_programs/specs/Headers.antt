@@ -9,38 +9,38 @@ use Rattle.elf_sections.specs.Shapes.{SectionsView}
 use Rattle.form_values.specs.declared.raw.Widths.{Widths}
 use Rattle.line_machine.specs.declared.registers.Program.{Program}
 use Rattle.line_machine.specs.Machine.{IsRunnable}
-use Rattle.line_programs.specs.declared.front.Speeds.{Speeds}
-use Rattle.line_programs.specs.declared.front.Ranges.{Ranges}
-use Rattle.line_programs.specs.Front.{in_header, bounds_at, start_at, speeds_at, ranges_at}
+use Rattle.line_programs.specs.declared.front.InstructionFields.{InstructionFields}
+use Rattle.line_programs.specs.declared.front.SpecialOpcodes.{SpecialOpcodes}
+use Rattle.line_programs.specs.Front.{in_header, bounds_at, start_at, instruction_fields_at, special_opcodes_at}
 use Rattle.line_programs.specs.Shapes.{LineView, MachineView}
-use Rattle.line_programs.specs.Tables.{table_at}
+use Rattle.line_programs.specs.Tables.{name_table_at}
 
 -- What the machine is told. Its addresses have the unit's size, whatever the header says.
-abbrev pub program_of : Speeds → Ranges → ℕ → Program
-program_of speeds ranges size = record {
-  min_length = speeds.min_length;
-  max_ops = speeds.max_ops;
-  default_stmt = speeds.default_stmt;
-  line_base = ranges.line_base;
-  line_range = ranges.line_range;
-  opcode_base = ranges.opcode_base;
+abbrev pub program_of : InstructionFields → SpecialOpcodes → ℕ → Program
+program_of instruction special size = record {
+  min_length = instruction.min_length;
+  max_ops = instruction.max_ops;
+  default_stmt = instruction.default_stmt;
+  line_base = special.line_base;
+  line_range = special.line_range;
+  opcode_base = special.opcode_base;
   address_size = size;
 }
 
 -- The fields of the machine in their order. The lengths of the standard opcodes count as one field.
 unfoldable pub machine_at : ℕ → Reader MachineView
 machine_at size s = do
-  speeds ← speeds_at s
-  ranges ← ranges_at (at s speeds.1)
-  lengths ← in_header (bytes_at (ranges.0.opcode_base - 1) (at s ranges.1))
-  Ok (record { program = program_of speeds.0 ranges.0 size; lengths = lengths.0 }, lengths.1)
+  instruction ← instruction_fields_at s
+  special ← special_opcodes_at (at s instruction.1)
+  lengths ← in_header (bytes_at (special.0.opcode_base - 1) (at s special.1))
+  Ok (record { program = program_of instruction.0 special.0 size; lengths = lengths.0 }, lengths.1)
 
 -- The fields of a header from those of the machine on; `code` is its program.
 unfoldable pub fields_of : SectionsView → Widths → Span → Span → Result LineView Fault
 fields_of sections widths code s = do
   machine ← machine_at widths.address_size s
-  directories ← table_at sections widths (at s machine.1)
-  files ← table_at sections widths (at s directories.1)
+  directories ← name_table_at sections widths (at s machine.1)
+  files ← name_table_at sections widths (at s directories.1)
   Ok (record {
     program = machine.0.program;
     lengths = machine.0.lengths;
@@ -61,10 +61,25 @@ unfoldable pub line_header_of : SectionsView → ℕ → ℕ → Result LineView
 line_header_of sections size offset = do
   section ← section_of sections.line
   bounds ← bounds_at section sections.order offset
-  start ← start_at bounds.wide (record { bytes = section; place = bounds.place; end = bounds.end; order = sections.order })
+  start ← start_at bounds.wide (record {
+    bytes = section;
+    place = bounds.place;
+    end = bounds.end;
+    order = sections.order;
+  })
   fields_of sections (record { wide = bounds.wide; address_size = size })
-      (record { bytes = section; place = start.1 + start.0; end = bounds.end; order = sections.order })
-      (record { bytes = section; place = start.1; end = start.1 + start.0; order = sections.order })
+      (record {
+        bytes = section;
+        place = start.1 + start.0;
+        end = bounds.end;
+        order = sections.order;
+      })
+      (record {
+        bytes = section;
+        place = start.1;
+        end = start.1 + start.0;
+        order = sections.order;
+      })
 
 -- What holds of every header that was read: its program can be run.
 pub record IsLineHeader (program : Program) (lengths : List ℕ) : Type 0 where

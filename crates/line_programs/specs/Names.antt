@@ -2,18 +2,16 @@
 use Rattle.std.specs.Prelude.{ℕ, pos, ◌≡◌, ◌+◌, ◌-◌, ◌==◌, List, [], ◌∷◌, Result, Ok, Err, if◌then◌else◌}
 use Rattle.dw_fields.specs.declared.fault_code.Code.{Code}
 use Rattle.dw_fields.specs.declared.fault_code.Fault.{Fault}
-use Rattle.dw_fields.specs.Codes.{fault}
 use Rattle.dw_fields.specs.Span.{at}
 use Rattle.dw_fields.specs.Reading.{Reader, ◌>>=◌}
 use Rattle.elf_sections.specs.Shapes.{SectionsView}
 use Rattle.form_values.specs.declared.raw.Widths.{Widths}
 use Rattle.form_values.specs.View.{RawView, Text, TextOffset, LineTextOffset, Unsigned}
 use Rattle.form_values.specs.FormTable.{value_at}
-use Rattle.form_values.specs.Resolved.{text_in}
+use Rattle.form_values.specs.Resolved.{refused_at, text_in}
 use Rattle.line_programs.specs.declared.formats.Format.{Format}
-use Rattle.line_programs.specs.declared.names.FileName.{FileName}
 use Rattle.line_programs.specs.Front.{in_header}
-use Rattle.line_programs.specs.Shapes.{NameView, name_view}
+use Rattle.line_programs.specs.Shapes.{NameView}
 
 -- The text of a path.
 unfoldable pub path_of : SectionsView → RawView → Result (List ℕ) Code
@@ -28,15 +26,16 @@ index_of (Unsigned n) = n
 index_of _ = 0
 
 -- A path that was resolved, or its refusal at the value.
-abbrev pub with_path : ℕ → NameView → Result (List ℕ) Code → Result NameView Fault
-with_path place name (Ok path) = Ok (record name { path = path })
-with_path place name (Err code) = Err (fault code place)
+abbrev pub with_path : NameView → Result (List ℕ) Fault → Result NameView Fault
+with_path name (Ok path) = Ok (record name { path = path })
+with_path name (Err f) = Err f
 
 -- What a value does to its entry. `left` counts the paths from this format on: only the last one
 -- counts, and those before it are dropped without being resolved.
-unfoldable pub placed : SectionsView → ℕ → ℕ → ℕ → RawView → NameView → Result NameView Fault
-placed sections content left place value name =
-    if content == 1 then (if left == 1 then with_path place name (path_of sections value) else Ok name)
+unfoldable pub set_field : SectionsView → ℕ → ℕ → ℕ → RawView → NameView → Result NameView Fault
+set_field sections content left place value name =
+    if content == 1
+    then (if left == 1 then with_path name (refused_at place (path_of sections value)) else Ok name)
     else (if content == 2 then Ok (record name { directory = index_of value }) else Ok name)
 
 -- How many of the formats are paths.
@@ -51,7 +50,7 @@ paths_in (format ∷ formats) = weight format.content + paths_in formats
 unfoldable pub field_at : SectionsView → Widths → ℕ → Format → NameView → Reader NameView
 field_at sections widths left format name s = do
   value ← in_header (value_at format.form widths (pos 0) s)
-  next ← placed sections format.content left s.place value.0 name
+  next ← set_field sections format.content left s.place value.0 name
   Ok (next, value.1)
 
 -- The values of one entry in the order of its formats.
@@ -67,8 +66,3 @@ nameless = record { path = []; directory = 0 }
 
 unfoldable pub name_at : SectionsView → Widths → List Format → Reader NameView
 name_at sections widths formats s = fields_at sections widths (paths_in formats) formats nameless s
-
--- A private helper's answer.
-abbrev pub SameName : Result FileName Fault → Result NameView Fault → Type 0
-SameName (Ok name) wanted = wanted ≡ Ok (name_view name)
-SameName (Err f) wanted = wanted ≡ Err f

@@ -25,8 +25,8 @@ names_at sections widths formats count s = times count (name_at sections widths 
 
 -- An entry format, a count of entries, and the entries. Entries without a format are refused at their
 -- count.
-unfoldable pub table_at : SectionsView → Widths → Reader (List NameView)
-table_at sections widths s = do
+unfoldable pub name_table_at : SectionsView → Widths → Reader (List NameView)
+name_table_at sections widths s = do
   formats ← formats_at s
   count ← in_header (uleb_at (at s formats.1))
   refuse (not (count.0 == 0) && (length formats.0 == 0)) (fault LineForm formats.1)

@@ -1,4 +1,5 @@
-//! Entry formats: what the directories and files of a header say, and in which forms.
+//! Entry formats: what the directories and files of a header say, and in which forms (DWARF 5 section
+//! 6.2.4, items 11 to 18, and section 6.2.4.1).
 
 ghost use Rattle.std.specs.Prelude.{◌≡◌};
 ghost use Rattle.dw_fields.specs.Reading.{Reads};
@@ -8,15 +9,17 @@ use crate::front::in_header;
 use dw_fields::{Code, Cut, Fault};
 use form_values::form;
 
-/// The content type of a path.
+/// `DW_LNCT_path`: the content type of a path.
 pub(crate) const PATH: u64 = 1;
-/// The content type of a directory's number.
+/// `DW_LNCT_directory_index`: the content type of a directory's number.
 pub(crate) const DIRECTORY_INDEX: u64 = 2;
 
 /// One pair of an entry format: a content type and the form of its value.
 #[derive(Clone, Copy, Debug, PartialEq, Eq)]
-pub(crate) struct Format {
+pub struct Format {
+    /// The content type (DWARF 5 table 7.27): 1 is a path, 2 the number of a directory.
     pub content: u64,
+    /// The form of the value.
     pub form: u64,
 }
 
@@ -62,7 +65,7 @@ fn is_accepted(content: u64, form: u64) -> bool
     }
 }
 
-/// A pair, judged as it is read: 54 at a form that its content type can't have.
+/// A pair, judged as it is read: `LineForm` at a form that its content type can't have.
 #[tactic(auto, unfolding(crate::specs::Formats::format_at))]
 pub(crate) fn read_format(cut: &mut Cut<'_>) -> Result<Format, Fault>
     ensures { Reads (λ f. f) result format_at cut.old cut.new }
@@ -71,10 +74,7 @@ pub(crate) fn read_format(cut: &mut Cut<'_>) -> Result<Format, Fault>
     let place = cut.place();
     let form = in_header(cut.uleb())?;
     if !is_accepted(content, form) {
-        return Err(Fault {
-            code: Code::LineForm,
-            place,
-        });
+        return Err(Fault::at(Code::LineForm, place));
     }
     Ok(Format { content, form })
 }

@@ -1,23 +1,26 @@
-//! The front of a line program's header, up to the lengths of the standard opcodes.
+//! The front of a line program's header, up to the lengths of the standard opcodes (DWARF 5 section
+//! 6.2.4, items 1 to 10).
 
 ghost use Rattle.std.specs.Prelude.{◌≡◌, ◌+◌, ◌≤◌, ◌<◌, length, IfOk};
 ghost use Rattle.dw_fields.specs.Reading.{Reads};
-ghost use Rattle.line_programs.specs.Front.{bounds_at, in_header, ranges_at, speeds_at, start_at, version_at};
+ghost use Rattle.line_programs.specs.Front.{bounds_at, in_header, instruction_fields_at, line_version_at, special_opcodes_at, start_at};
 
 use dw_fields::{Code, Cut, Fault, Order, renamed};
 
-/// Where a line program lies in its section, from behind its length, and whether its offsets have 8
-/// bytes.
+/// Where a line program lies in its section.
 #[derive(Clone, Copy, Debug, PartialEq, Eq)]
 pub(crate) struct Bounds {
+    /// Behind its length.
     pub place: u64,
+    /// Behind the program.
     pub end: u64,
+    /// Whether it is of the 64-bit format: its offsets have 8 bytes.
     pub wide: bool,
 }
 
 /// How an instruction is counted, and `stmt` at the start of a sequence.
 #[derive(Clone, Copy, Debug, PartialEq, Eq)]
-pub(crate) struct Speeds {
+pub(crate) struct InstructionFields {
     pub min_length: u8,
     pub max_ops: u8,
     pub default_stmt: bool,
@@ -25,14 +28,14 @@ pub(crate) struct Speeds {
 
 /// What special opcodes mean.
 #[derive(Clone, Copy, Debug, PartialEq, Eq)]
-pub(crate) struct Ranges {
+pub(crate) struct SpecialOpcodes {
     pub line_base: i8,
     pub line_range: u8,
     pub opcode_base: u8,
 }
 
-/// A field or a text of the header that passes the header's end is refused with 53, and not with 41
-/// or 43.
+/// A field or a text of the header that passes the header's end: `Truncated` and `TextUnended`
+/// become `LineTruncated`.
 pub(crate) fn in_header<T>(read: Result<T, Fault>) -> Result<T, Fault>
     ensures { result ≡ in_header read }
 {
@@ -51,18 +54,12 @@ pub(crate) fn read_bounds(section: &[u8], order: Order, offset: u64) -> Result<B
 {
     let length = section.len() as u64;
     if length <= offset {
-        return Err(Fault {
-            code: Code::LineTruncated,
-            place: length,
-        });
+        return Err(Fault::at(Code::LineTruncated, length));
     }
     let mut cut = Cut::new(section, offset, length, order);
     let size = in_header(cut.length())?;
     if cut.left() < size.value {
-        return Err(Fault {
-            code: Code::LineTruncated,
-            place: offset,
-        });
+        return Err(Fault::at(Code::LineTruncated, offset));
     }
     Ok(Bounds {
         place: cut.place(),
@@ -72,17 +69,14 @@ pub(crate) fn read_bounds(section: &[u8], order: Order, offset: u64) -> Result<B
 }
 
 /// The version, and the sizes of addresses and segments, which aren't used.
-#[tactic(auto, unfolding(crate::specs::Front::version_at))]
-fn read_version(cut: &mut Cut<'_>) -> Result<u16, Fault>
-    ensures { Reads (λ x. x) result version_at cut.old cut.new }
+#[tactic(auto, unfolding(crate::specs::Front::line_version_at))]
+fn read_line_version(cut: &mut Cut<'_>) -> Result<u16, Fault>
+    ensures { Reads (λ x. x) result line_version_at cut.old cut.new }
 {
     let place = cut.place();
     let version = in_header(cut.u16())?;
     if version != 5 {
-        return Err(Fault {
-            code: Code::LineVersion,
-            place,
-        });
+        return Err(Fault::at(Code::LineVersion, place));
     }
     let _address_size = in_header(cut.u8())?;
     let _segment_size = in_header(cut.u8())?;
@@ -95,35 +89,29 @@ pub(crate) fn read_start(cut: &mut Cut<'_>, wide: bool) -> Result<u64, Fault>
     ensures field { Reads (λ x. x) result (start_at wide) cut.old cut.new }
     ensures fits { IfOk result (λ size. cut.new.place + size ≤ cut.new.end) }
 {
-    let _version = read_version(cut)?;
+    let _version = read_line_version(cut)?;
     let place = cut.place();
     let size = in_header(cut.offset(wide))?;
     if cut.left() < size {
-        return Err(Fault {
-            code: Code::LineTruncated,
-            place,
-        });
+        return Err(Fault::at(Code::LineTruncated, place));
     }
     Ok(size)
 }
 
 /// The size of an instruction, its greatest number of operations, and `stmt` at the start.
-#[tactic(auto, unfolding(crate::specs::Front::speeds_at))]
-pub(crate) fn read_speeds(cut: &mut Cut<'_>) -> Result<Speeds, Fault>
-    ensures field { Reads (λ x. x) result speeds_at cut.old cut.new }
+#[tactic(auto, unfolding(crate::specs::Front::instruction_fields_at))]
+pub(crate) fn read_instruction_fields(cut: &mut Cut<'_>) -> Result<InstructionFields, Fault>
+    ensures field { Reads (λ x. x) result instruction_fields_at cut.old cut.new }
     ensures some { IfOk result (λ s. 0 < s.max_ops) }
 {
     let min_length = in_header(cut.u8())?;
     let place = cut.place();
     let max_ops = in_header(cut.u8())?;
     if max_ops == 0 {
-        return Err(Fault {
-            code: Code::MaxOps,
-            place,
-        });
+        return Err(Fault::at(Code::MaxOps, place));
     }
     let stmt = in_header(cut.u8())?;
-    Ok(Speeds {
+    Ok(InstructionFields {
         min_length,
         max_ops,
         default_stmt: stmt != 0,
@@ -131,29 +119,23 @@ pub(crate) fn read_speeds(cut: &mut Cut<'_>) -> Result<Speeds, Fault>
 }
 
 /// What special opcodes mean.
-#[tactic(auto, unfolding(crate::specs::Front::ranges_at))]
-pub(crate) fn read_ranges(cut: &mut Cut<'_>) -> Result<Ranges, Fault>
-    ensures field { Reads (λ x. x) result ranges_at cut.old cut.new }
+#[tactic(auto, unfolding(crate::specs::Front::special_opcodes_at))]
+pub(crate) fn read_special_opcodes(cut: &mut Cut<'_>) -> Result<SpecialOpcodes, Fault>
+    ensures field { Reads (λ x. x) result special_opcodes_at cut.old cut.new }
     ensures some { IfOk result (λ r. (0 < r.line_range) × (0 < r.opcode_base)) }
 {
     let base = in_header(cut.u8())?;
     let place = cut.place();
     let line_range = in_header(cut.u8())?;
     if line_range == 0 {
-        return Err(Fault {
-            code: Code::LineRange,
-            place,
-        });
+        return Err(Fault::at(Code::LineRange, place));
     }
     let place = cut.place();
     let opcode_base = in_header(cut.u8())?;
     if opcode_base == 0 {
-        return Err(Fault {
-            code: Code::LineRange,
-            place,
-        });
+        return Err(Fault::at(Code::LineRange, place));
     }
-    Ok(Ranges {
+    Ok(SpecialOpcodes {
         line_base: base.cast_signed(),
         line_range,
         opcode_base,

@@ -1,4 +1,4 @@
-//! The header of a line program.
+//! The header of a line program (DWARF 5 section 6.2.4).
 
 ghost use Rattle.std.specs.Prelude.{◌≡◌, ◌+◌, ◌-◌, ◌<◌, length, map, IfOk};
 ghost use Rattle.dw_fields.specs.Reading.{IsAddressSize, Reads, bytes_at};
@@ -9,9 +9,12 @@ ghost use Rattle.line_programs.specs.Shapes.{machine_view, name_view};
 ghost use Rattle.line_programs.specs.Front.{in_header};
 ghost use Rattle.line_programs.specs.Headers.{IsLineHeader, fields_of, line_header_of, machine_at};
 
-use crate::front::{in_header, read_bounds, read_ranges, read_speeds, read_start};
+use crate::front::{
+    in_header, read_bounds, read_instruction_fields, read_special_opcodes, read_start,
+};
 use crate::names::FileName;
-use crate::tables::{paths, read_table, refused};
+use crate::path_texts::PathTexts;
+use crate::tables::{paths, read_table};
 use dw_fields::{Code, Cut, Fault};
 use elf_sections::Sections;
 use form_values::Widths;
@@ -62,7 +65,8 @@ impl<'f> LineHeader<'f> {
     ///   no format;
     /// - `LebTooLarge` at a LEB128 outside 64 bits;
     /// - `NoSection`, `TextOutside` and `TextUnended` at a path that stands in another section.
-    #[tactic(auto, unfolding(crate::specs::Headers::line_header_of))]
+    ///
+    /// Or want of memory.
     pub fn read(
         alloc: Global,
         sections: &Sections<'f>,
@@ -70,27 +74,44 @@ impl<'f> LineHeader<'f> {
         offset: u64,
     ) -> Result<LineHeader<'f>, UnitRefusal>
         requires { IsAddressSize header.now.address_size }
-        ensures { Answers (λ h. h) result (line_header_of (sections_view sections.entry.now) header.now.address_size offset) }
+        ensures { Answers (λ h. h) result
+            (line_header_of (sections_view sections.entry.now) header.now.address_size offset) }
     {
-        let section = match sections.line {
-            Some(section) => section,
-            None => {
-                return Err(UnitRefusal::Refused(Fault {
-                    code: Code::NoSection,
-                    place: 0,
-                }));
-            }
+        let mut texts = PathTexts::new(sections);
+        LineHeader::read_with(alloc, &mut texts, header, offset)
+    }
+
+    /// Reads the same header, with the finder of texts that other headers of the file were read
+    /// with. However many paths name one text, a section of texts is gone over twice at most.
+    ///
+    /// # Errors
+    /// Those of [`LineHeader::read`].
+    #[tactic(auto, unfolding(crate::specs::Headers::line_header_of))]
+    pub fn read_with(
+        alloc: Global,
+        texts: &mut PathTexts<'f>,
+        header: &UnitHeader,
+        offset: u64,
+    ) -> Result<LineHeader<'f>, UnitRefusal>
+        requires { IsAddressSize header.now.address_size }
+        ensures header { Answers (λ h. h) result
+            (line_header_of texts.old header.now.address_size offset) }
+        ensures texts { texts.new ≡ texts.old }
+    {
+        let order = texts.order();
+        let Some(section) = texts.line_section() else {
+            return Err(UnitRefusal::from(Fault::at(Code::NoSection, 0)));
         };
-        let bounds = refused(read_bounds(section, sections.order, offset))?;
-        let mut code = Cut::new(section, bounds.place, bounds.end, sections.order);
-        let size = refused(read_start(&mut code, bounds.wide))?;
+        let bounds = read_bounds(section, order, offset)?;
+        let mut code = Cut::new(section, bounds.place, bounds.end, order);
+        let size = read_start(&mut code, bounds.wide)?;
         let fields = code.front(size);
         code.pass(size);
         let widths = Widths {
             wide: bounds.wide,
             address_size: header.address_size,
         };
-        read_fields(alloc, sections, widths, code, fields)
+        read_fields(alloc, texts, widths, code, fields)
     }
 
     /// The paths of the directories by their numbers.
@@ -117,7 +138,8 @@ impl<'f> LineHeader<'f> {
     ///   or whose address isn't 2, 4 or 8 bytes;
     /// - `LebTooLarge` at a LEB128 outside 64 bits.
     pub fn rows(&self, alloc: Global) -> Result<Vec<Row>, UnitRefusal>
-        ensures { Answers (λ v. v.items) result (line_rows self.now.program self.now.lengths self.now.code) }
+        ensures { Answers (λ v. v.items) result
+            (line_rows self.now.program self.now.lengths self.now.code) }
     {
         rows(alloc, self.code.fork(), &self.program, self.lengths)
     }
@@ -137,16 +159,16 @@ fn read_machine<'f>(cut: &mut Cut<'f>, address_size: u8) -> Result<Machine<'f>, 
     ensures field { Reads machine_view result (machine_at address_size) cut.old cut.new }
     ensures runs { IfOk result (λ m. IsLineHeader m.program m.lengths.now) }
 {
-    let speeds = read_speeds(cut)?;
-    let ranges = read_ranges(cut)?;
-    let lengths = read_lengths(cut, ranges.opcode_base)?;
+    let instruction = read_instruction_fields(cut)?;
+    let special = read_special_opcodes(cut)?;
+    let lengths = read_lengths(cut, special.opcode_base)?;
     let program = Program {
-        min_length: speeds.min_length,
-        max_ops: speeds.max_ops,
-        default_stmt: speeds.default_stmt,
-        line_base: ranges.line_base,
-        line_range: ranges.line_range,
-        opcode_base: ranges.opcode_base,
+        min_length: instruction.min_length,
+        max_ops: instruction.max_ops,
+        default_stmt: instruction.default_stmt,
+        line_base: special.line_base,
+        line_range: special.line_range,
+        opcode_base: special.opcode_base,
         address_size,
     };
     Ok(Machine { program, lengths })
@@ -155,7 +177,8 @@ fn read_machine<'f>(cut: &mut Cut<'f>, address_size: u8) -> Result<Machine<'f>, 
 /// The lengths of the standard opcodes, as one field.
 fn read_lengths<'f>(cut: &mut Cut<'f>, opcode_base: u8) -> Result<&'f [u8], Fault>
     requires { 0 < opcode_base }
-    ensures field { Reads (λ b. b.now) result (λ s. in_header (bytes_at (opcode_base - 1) s)) cut.old cut.new }
+    ensures field { Reads (λ b. b.now) result
+        (λ s. in_header (bytes_at (opcode_base - 1) s)) cut.old cut.new }
     ensures size { IfOk result (λ b. length b.now + 1 ≡ opcode_base) }
 {
     in_header(cut.bytes(u64::from(opcode_base - 1)))
@@ -166,21 +189,19 @@ fn read_lengths<'f>(cut: &mut Cut<'f>, opcode_base: u8) -> Result<&'f [u8], Faul
 #[tactic(auto, unfolding(crate::specs::Headers::fields_of))]
 fn read_fields<'f>(
     alloc: Global,
-    sections: &Sections<'f>,
+    texts: &mut PathTexts<'f>,
     widths: Widths,
     code: Cut<'f>,
     mut fields: Cut<'f>,
 ) -> Result<LineHeader<'f>, UnitRefusal>
     requires { IsAddressSize widths.address_size }
-    ensures { Answers (λ h. h) result (fields_of (sections_view sections.entry.now) widths code.entry fields.entry) }
+    ensures header { Answers (λ h. h) result (fields_of texts.old widths code.entry fields.entry) }
+    ensures texts { texts.new ≡ texts.old }
 {
-    let machine = refused(read_machine(&mut fields, widths.address_size))?;
-    let directories = read_table(alloc, &mut fields, sections, widths)?;
-    let files = read_table(alloc, &mut fields, sections, widths)?;
-    let directories = match paths(alloc, directories.as_slice()) {
-        Ok(directories) => directories,
-        Err(_) => return Err(UnitRefusal::OutOfMemory),
-    };
+    let machine = read_machine(&mut fields, widths.address_size)?;
+    let directories = read_table(alloc, &mut fields, texts, widths)?;
+    let files = read_table(alloc, &mut fields, texts, widths)?;
+    let directories = paths(alloc, directories.as_slice())?;
     Ok(LineHeader {
         code,
         program: machine.program,

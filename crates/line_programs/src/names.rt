@@ -1,18 +1,19 @@
-//! The entries of directories and files by their formats.
+//! The entries of directories and files by their formats (DWARF 5 section 6.2.4.1).
 
 ghost use Rattle.std.specs.Prelude.{◌≡◌, ◌+◌, ◌-◌, ◌≤◌};
-ghost use Rattle.dw_fields.specs.Reading.{IsAddressSize, Reads};
-ghost use Rattle.elf_sections.specs.Shapes.{sections_view};
+ghost use Rattle.dw_fields.specs.Reading.{IsAddressSize};
 ghost use Rattle.form_values.specs.View.{raw_view};
-ghost use Rattle.form_values.specs.Resolved.{SameText};
+ghost use Rattle.unit_headers.specs.Refusals.{Answers, AnswersAt};
 ghost use Rattle.line_programs.specs.Shapes.{name_view};
-ghost use Rattle.line_programs.specs.Names.{SameName, field_at, index_of, name_at, path_of, paths_in, placed, weight};
+ghost use Rattle.line_programs.specs.Names.{field_at, index_of, name_at, paths_in, set_field, weight};
 
 use crate::formats::{DIRECTORY_INDEX, Format, PATH};
 use crate::front::in_header;
-use dw_fields::{Code, Cut, Fault};
-use elf_sections::Sections;
-use form_values::{Raw, Widths, read_form, text_in};
+use crate::path_texts::PathTexts;
+use dw_fields::Cut;
+use form_values::{Raw, Widths, read_form};
+use std::alloc::Global;
+use unit_headers::UnitRefusal;
 
 /// A file of a line program's header. `directory` is the number of its directory.
 #[derive(Clone, Copy, Debug)]
@@ -21,19 +22,6 @@ pub struct FileName<'f> {
     pub path: &'f [u8],
     /// The number of the directory that the path is relative to.
     pub directory: u64,
-}
-
-/// The text of a path.
-#[tactic(auto, unfolding(crate::specs::Names::path_of))]
-fn path_of<'f>(value: &Raw<'f>, sections: &Sections<'f>) -> Result<&'f [u8], Code>
-    ensures { SameText result (path_of (sections_view sections.entry.now) (raw_view value.entry.now)) }
-{
-    match *value {
-        Raw::Text(text) => Ok(text),
-        Raw::TextOffset(offset) => text_in(sections.text, offset),
-        Raw::LineTextOffset(offset) => text_in(sections.line_text, offset),
-        _ => Ok(b""),
-    }
 }
 
 /// The number of a directory index.
@@ -47,31 +35,36 @@ fn index_of(value: &Raw<'_>) -> u64
     }
 }
 
-/// Puts a value to its entry; `left` counts the paths that are left, this one included. Only the last
-/// path counts, and those before it aren't resolved.
-#[tactic(auto, unfolding(crate::specs::Names::placed))]
-fn placed<'f>(
-    sections: &Sections<'f>,
+/// Sets what a value says of its entry; `left` counts the paths that are left, this one included.
+/// Only the last path counts, and those before it aren't resolved.
+///
+/// # Errors
+/// `NoSection`, `TextOutside` and `TextUnended` at the value of a path that stands in another
+/// section, or want of memory.
+#[tactic(auto, unfolding(crate::specs::Names::set_field))]
+fn set_field<'f>(
+    alloc: Global,
+    texts: &mut PathTexts<'f>,
     content: u64,
     left: u64,
     place: u64,
     value: &Raw<'f>,
     name: FileName<'f>,
-) -> Result<FileName<'f>, Fault>
-    ensures { SameName result (placed (sections_view sections.entry.now) content left place (raw_view value.entry.now) (name_view name.entry)) }
+) -> Result<FileName<'f>, UnitRefusal>
+    ensures entry { Answers name_view result
+        (set_field texts.old content left place (raw_view value.entry.now) (name_view name.entry)) }
+    ensures texts { texts.new ≡ texts.old }
 {
     match content {
         PATH => {
             if left != 1 {
                 return Ok(name);
             }
-            match path_of(value, sections) {
-                Ok(path) => Ok(FileName {
-                    path,
-                    directory: name.directory,
-                }),
-                Err(code) => Err(Fault { code, place }),
-            }
+            let path = texts.path(alloc, value, place)?;
+            Ok(FileName {
+                path,
+                directory: name.directory,
+            })
         }
         DIRECTORY_INDEX => Ok(FileName {
             path: name.path,
@@ -84,19 +77,22 @@ fn placed<'f>(
 /// Reads one value by its format.
 #[tactic(auto, unfolding(crate::specs::Names::field_at))]
 fn read_field<'f>(
+    alloc: Global,
     cut: &mut Cut<'f>,
-    sections: &Sections<'f>,
+    texts: &mut PathTexts<'f>,
     widths: Widths,
     left: u64,
     format: Format,
     name: FileName<'f>,
-) -> Result<FileName<'f>, Fault>
+) -> Result<FileName<'f>, UnitRefusal>
     requires { IsAddressSize widths.address_size }
-    ensures { Reads name_view result (field_at (sections_view sections.entry.now) widths left format (name_view name.entry)) cut.old cut.new }
+    ensures entry { AnswersAt name_view result
+        (field_at texts.old widths left format (name_view name.entry)) cut.old cut.new }
+    ensures texts { texts.new ≡ texts.old }
 {
     let place = cut.place();
     let value = in_header(read_form(cut, format.form, widths, 0))?;
-    placed(sections, format.content, left, place, &value, name)
+    set_field(alloc, texts, format.content, left, place, &value, name)
 }
 
 /// 1 for a path, 0 for any other content type.
@@ -120,15 +116,18 @@ pub(crate) fn paths_in(formats: &[Format]) -> u64
 /// Reads one entry: its values in the order of its formats.
 #[tactic(auto, unfolding(crate::specs::Names::name_at))]
 pub(crate) fn read_name<'f>(
+    alloc: Global,
     cut: &mut Cut<'f>,
-    sections: &Sections<'f>,
+    texts: &mut PathTexts<'f>,
     widths: Widths,
     formats: &[Format],
     paths: u64,
-) -> Result<FileName<'f>, Fault>
+) -> Result<FileName<'f>, UnitRefusal>
     requires size { IsAddressSize widths.address_size }
     requires counted { paths ≡ paths_in formats.now }
-    ensures { Reads name_view result (name_at (sections_view sections.entry.now) widths formats.now) cut.old cut.new }
+    ensures entry { AnswersAt name_view result
+        (name_at texts.old widths formats.now) cut.old cut.new }
+    ensures texts { texts.new ≡ texts.old }
 {
     let mut left = paths;
     let mut name = FileName {
@@ -136,10 +135,7 @@ pub(crate) fn read_name<'f>(
         directory: 0,
     };
     for format in formats {
-        name = match read_field(cut, sections, widths, left, *format, name) {
-            Ok(name) => name,
-            Err(fault) => return Err(fault),
-        };
+        name = read_field(alloc, cut, texts, widths, left, *format, name)?;
         left = left.saturating_sub(weight(format.content));
     }
     Ok(name)

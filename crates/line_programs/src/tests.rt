@@ -1,6 +1,6 @@
 //! A worked program, and what each changed byte of it comes to.
 
-use crate::LineHeader;
+use crate::{LineHeader, PathTexts};
 use dw_fields::Order;
 use elf_sections::Sections;
 use std::alloc::Global;
@@ -15,21 +15,21 @@ const LINES: [u8; 72] = [
     0x01, 0x4b, 0x13, 0x02, 0x02, 0x00, 0x01, 0x01,
 ];
 
+/// The same with its paths in `.debug_line_str`, which is `PATHS`. The fields end at 0x36.
+const FAR_LINES: [u8; 73] = [
+    0x45, 0x00, 0x00, 0x00, 0x05, 0x00, 0x08, 0x00, 0x2a, 0x00, 0x00, 0x00, 0x01, 0x01, 0x01, 0xfb,
+    0x0e, 0x0d, 0x00, 0x01, 0x01, 0x01, 0x01, 0x00, 0x00, 0x00, 0x01, 0x00, 0x00, 0x01, 0x01, 0x01,
+    0x1f, 0x01, 0x00, 0x00, 0x00, 0x00, 0x02, 0x01, 0x1f, 0x02, 0x0b, 0x02, 0x03, 0x00, 0x00, 0x00,
+    0x00, 0x03, 0x00, 0x00, 0x00, 0x00, 0x00, 0x09, 0x02, 0x00, 0x10, 0x00, 0x00, 0x00, 0x00, 0x00,
+    0x00, 0x01, 0x4b, 0x13, 0x02, 0x02, 0x00, 0x01, 0x01,
+];
+
+const PATHS: [u8; 7] = *b"/s\0a.c\0";
+
 fn sections(line: Option<&[u8]>) -> Sections<'_> {
     Sections {
-        order: Order::Little,
-        info: b"",
-        abbrev: b"",
-        text: None,
-        line_text: None,
-        text_offsets: None,
-        address: None,
-        range_lists: None,
-        location_lists: None,
         line,
-        ranges: None,
-        locations: None,
-        frame: None,
+        ..Sections::none(Order::Little)
     }
 }
 
@@ -51,13 +51,13 @@ fn refusal(alloc: Global, line: &[u8]) -> (u8, u64) {
     match LineHeader::read(alloc, &sections(Some(line)), &UNIT, 0) {
         Ok(header) => match header.rows(alloc) {
             Ok(_) => (0, 0),
-            Err(refusal) => told(refusal),
+            Err(refusal) => number_and_place(refusal),
         },
-        Err(refusal) => told(refusal),
+        Err(refusal) => number_and_place(refusal),
     }
 }
 
-fn told(refusal: UnitRefusal) -> (u8, u64) {
+fn number_and_place(refusal: UnitRefusal) -> (u8, u64) {
     match refusal {
         UnitRefusal::Refused(fault) => (fault.code.number(), fault.place),
         UnitRefusal::OutOfMemory => (255, 0),
@@ -134,9 +134,45 @@ fn a_changed_byte_has_its_refusal(rt: HostRuntime) {
 #[test]
 fn an_absent_section_and_an_offset_outside_are_refused(rt: HostRuntime) {
     let absent = LineHeader::read(rt.alloc(), &sections(None), &UNIT, 0).err();
-    assert!(rt; absent.map(told) == Some((47, 0)));
+    assert!(rt; absent.map(number_and_place) == Some((47, 0)));
     let outside = LineHeader::read(rt.alloc(), &sections(Some(&LINES)), &UNIT, 72).err();
-    assert!(rt; outside.map(told) == Some((53, 72)));
+    assert!(rt; outside.map(number_and_place) == Some((53, 72)));
+}
+
+/// The section of texts has seven bytes: the directory and the first file use up the walks, the second
+/// file has the table made, and the second header asks the table alone.
+#[test]
+fn paths_in_another_section_are_found_by_walks_and_by_the_table(rt: HostRuntime) {
+    let mut file = sections(Some(&FAR_LINES));
+    file.line_text = Some(&PATHS);
+    let mut texts = PathTexts::new(&file);
+    for _turn in 0..2 {
+        let header = LineHeader::read_with(rt.alloc(), &mut texts, &UNIT, 0).expect(&rt, "read");
+        assert_eq!(rt; header.directories().len(), 1);
+        assert_eq!(rt; header.files().len(), 2);
+        for directory in header.directories() {
+            assert!(rt; *directory == b"/s".as_slice());
+        }
+        for file in header.files() {
+            assert!(rt; file.path == b"a.c".as_slice());
+        }
+    }
+}
+
+#[test]
+fn a_path_outside_its_section_or_without_an_end_is_refused(rt: HostRuntime) {
+    let cases = [
+        (&PATHS[..3], 42, 0x2c), // the file's path begins at the section's end
+        (&PATHS[..6], 43, 0x2c), // the file's path has no end
+        (&PATHS[..2], 43, 0x22), // nor has the directory's
+        (&PATHS[..0], 42, 0x22),
+    ];
+    for (paths, number, place) in cases {
+        let mut file = sections(Some(&FAR_LINES));
+        file.line_text = Some(paths);
+        let refused = LineHeader::read(rt.alloc(), &file, &UNIT, 0).err();
+        assert!(rt; refused.map(number_and_place) == Some((number, place)));
+    }
 }
 
 #[test]

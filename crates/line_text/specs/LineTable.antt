@@ -15,10 +15,14 @@ use Rattle.line_text.specs.Rows.{rows_text}
 
 -- the head of the table of a unit, at an offset of `.debug_line`
 unfoldable pub head_line : ℕ → ℕ → List ℕ
-head_line unit offset = labelled (codes "lines of unit ") (decimal unit) ++ labelled (codes " at 0x") (hex offset) ++ labelled (10 ∷ []) []
+head_line unit offset =
+    labelled (codes "lines of unit ") (decimal unit) ++ labelled (codes " at 0x") (hex offset)
+    ++ 10 ∷ []
 
 unfoldable pub table_text : ℕ → ℕ → LineView → List Row → List ℕ
-table_text unit offset program rows = head_line unit offset ++ directories_text program.directories ++ files_text program.files ++ rows_text rows
+table_text unit offset program rows =
+    head_line unit offset ++ directories_text program.directories ++ files_text program.files
+    ++ rows_text rows
 
 -- the table at an offset
 unfoldable pub line_table_text : SectionsView → UnitHeader → ℕ → Text

@@ -17,7 +17,8 @@ abbrev pub directories_text : List (List ℕ) → List ℕ
 directories_text paths = numbered directory_line 0 paths
 
 unfoldable pub file_line : ℕ → NameView → List ℕ
-file_line number file = labelled (codes "file ") (decimal number) ++ labelled (codes " ") (decimal file.directory) ++ quoted_end file.path
+file_line number file =
+    labelled (codes "file ") (decimal number) ++ labelled (codes " ") (decimal file.directory) ++ quoted_end file.path
 
 abbrev pub files_text : List NameView → List ℕ
 files_text files = numbered file_line 0 files

@@ -11,14 +11,13 @@ use std::alloc::AllocError;
 
 /// Appends a line for each directory, numbered from 0.
 pub(crate) fn push_directories(out: &mut Vec<u8>, directories: &[&[u8]]) -> Result<(), AllocError>
-    ensures { Adds result out.old.items out.new.items (directories_text (map (λ d. d.now) directories.now)) }
+    ensures { Adds result out.old.items out.new.items
+        (directories_text (map (λ d. d.now) directories.now)) }
 {
     let mut number = 0;
     'directories: for directory in directories {
-        match push_directory(out, number, directory) {
-            Ok(()) => number += 1,
-            Err(error) => return Err(error),
-        }
+        push_directory(out, number, directory)?;
+        number += 1;
     }
     Ok(())
 }
@@ -29,10 +28,8 @@ pub(crate) fn push_files(out: &mut Vec<u8>, files: &[FileName<'_>]) -> Result<()
 {
     let mut number = 0;
     'files: for file in files {
-        match push_file(out, number, file) {
-            Ok(()) => number += 1,
-            Err(error) => return Err(error),
-        }
+        push_file(out, number, file)?;
+        number += 1;
     }
     Ok(())
 }

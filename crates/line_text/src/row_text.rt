@@ -2,7 +2,7 @@
 
 ghost use Rattle.std.specs.Prelude.{◌≡◌, ◌+◌, ◌≤◌, [], ◌++◌, length};
 ghost use Rattle.dw_text.specs.Added.{Adds};
-ghost use Rattle.line_text.specs.Rows.{counted_text, flag_text, row_edges, row_flags, row_numbers, row_place, row_text, rows_text};
+ghost use Rattle.line_text.specs.Rows.{counted_text, flag_word, row_edges, row_flags, row_numbers, row_place, row_text, rows_text};
 
 use dw_text::{LineBuffer, push_text};
 use line_machine::Row;
@@ -14,14 +14,12 @@ pub(crate) fn push_rows(out: &mut Vec<u8>, rows: &[Row]) -> Result<(), AllocErro
 {
     let mut line = LineBuffer::new();
     'rows: for row in rows {
-        match push_row(out, &mut line, row) {
-            Ok(()) => {}
-            Err(error) => return Err(error),
-        }
+        push_row(out, &mut line, row)?;
     }
     Ok(())
 }
 
+/// Appends the line of one row, which is made in `line`.
 fn push_row(out: &mut Vec<u8>, line: &mut LineBuffer, row: &Row) -> Result<(), AllocError>
     ensures { Adds result out.old.items out.new.items (row_text row.now) }
 {
@@ -88,10 +86,10 @@ fn put_numbers(line: &mut LineBuffer, row: &Row)
 
 /// Puts the word where the flag holds.
 #[inline(always)]
-#[tactic(auto, unfolding(crate::specs::Rows::flag_text))]
+#[tactic(auto, unfolding(crate::specs::Rows::flag_word))]
 fn put_flag(line: &mut LineBuffer, word: &[u8], flag: bool)
     requires { length line.old + length word.now ≤ 256 }
-    ensures text { line.new ≡ flag_text word.now flag ++ line.old }
+    ensures text { line.new ≡ flag_word word.now flag ++ line.old }
     ensures size { length line.new ≤ length line.old + length word.now }
 {
     if flag {

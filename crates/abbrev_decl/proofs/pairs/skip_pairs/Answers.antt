@@ -1,25 +1,23 @@
-use Rattle.std.proofs.Common.{arith, Some, None, Ok, Err, refl, ap}
-use Rattle.dw_fields.specs.Span.{Span}
-use Rattle.abbrev_decl.proofs.PairLaws.{skips_next, skips_end, pairs_fault, pair_stands, fault_stands, from_stands}
+use Rattle.std.proofs.Common.{Some, None, Ok, Err, sym, arith}
+use Rattle.abbrev_decl.proofs.PairLaws.{skips_next, skips_end, pairs_fault, pair_stands}
 use Rattle.abbrev_decl.proofs.pairs.skip_pairs.Goals as goal
 
 pub pairs-preserved : goal.pairs-preserved
-pairs-preserved c = record {
-  stands = from_stands c.pairs.cut c.read_pair.new.cut c.args.section.now c.pairs.cut.place c.pairs.invariant.stands c.in-Ok-Some.ensures.field.1;
-  forward = omega (arith, c.in-Ok-Some.ensures.moves.forward);
-  inside = omega (arith, c.in-Ok-Some.ensures.moves.inside, ap (λ (s : Span). s.end) c.pairs.invariant.stands);
-  walk = λ r h. c.pairs.invariant.walk r (skips_next r c.args.section.now c.pairs.cut.place c.read_pair.new.cut.place c.in-Ok-Some.field-0-0
-      (pair_stands c.pairs.cut c.args.section.now c.pairs.cut.place c.read_pair.new.cut.place c.read_pair.new.cut.place c.in-Ok-Some.field-0 (Some c.in-Ok-Some.field-0-0)
-      c.pairs.invariant.stands c.in-Ok-Some.ensures.field.0 c.in-Ok-Some.field-0-is refl) h);
-}
+pairs-preserved c =
+    let stands = pair_stands _ c.in-Ok-Some-default.next _ (Some c.in-Ok-Some-default.field-0-0-0)
+    c.in-Ok-Some-default.ensures.answer c.in-Ok-Some-default.field-0-0-is in
+    record {
+      forward = omega (arith, c.in-Ok-Some-default.ensures.inside);
+      inside = omega (arith, c.in-Ok-Some-default.ensures.inside);
+      walk = λ r h. c.pairs.invariant.walk r
+          (skips_next r c.args.section.now c.pairs.place c.in-Ok-Some-default.next c.in-Ok-Some-default.field-0-0-0 stands h);
+    }
 
-pub returns-in-Ok-None-clause-answer : goal.returns-in-Ok-None-clause-answer
-returns-in-Ok-None-clause-answer c =
-    c.pairs.invariant.walk (Ok c.place.result) (skips_end c.args.section.now c.pairs.cut.place c.place.result
-    (pair_stands c.pairs.cut c.args.section.now c.pairs.cut.place c.read_pair.new.cut.place c.place.result c.in-Ok-None.field-0 None
-    c.pairs.invariant.stands c.in-Ok-None.ensures.field.0 c.in-Ok-None.field-0-is c.place.ensures.value))
+pub returns-in-Ok-None-default-clause-answer : goal.returns-in-Ok-None-default-clause-answer
+returns-in-Ok-None-default-clause-answer c =
+    let stands = pair_stands _ c.in-Ok-None-default.next _ None c.in-Ok-None-default.ensures.answer c.in-Ok-None-default.field-0-0-is in
+    c.pairs.invariant.walk (Ok c.in-Ok-None-default.next) (skips_end c.args.section.now c.pairs.place c.in-Ok-None-default.next stands)
 
 pub returns-in-Err-clause-answer : goal.returns-in-Err-clause-answer
 returns-in-Err-clause-answer c =
-    c.pairs.invariant.walk (Err c.in-Err.fault) (pairs_fault c.args.section.now c.pairs.cut.place c.in-Err.fault
-    (fault_stands c.pairs.cut c.args.section.now c.pairs.cut.place c.in-Err.fault c.pairs.invariant.stands c.in-Err.ensures.field))
+    c.pairs.invariant.walk (Err c.in-Err.fault) (pairs_fault c.args.section.now c.pairs.place c.in-Err.fault (sym c.in-Err.ensures.answer))

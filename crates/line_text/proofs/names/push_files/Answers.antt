@@ -1,4 +1,4 @@
-use Rattle.std.proofs.Common.{arith, Ok, Err}
+use Rattle.std.proofs.Common.{rules, arith, Ok, Err}
 use Rattle.line_text.proofs.Lines.{numbered_next, numbered_end}
 use Rattle.line_text.specs.Names.{file_line}
 use Rattle.line_programs.specs.Shapes.{name_view}
@@ -8,11 +8,13 @@ pub files-preserved : goal.files-preserved
 files-preserved c = record {
   number = omega arith;
   text = λ r new p. c.files.invariant.text r new
-      (numbered_next file_line name_view c.args.files.now c.files.number c.files.file-index _ r _ _ new c.files-test.true c.files.invariant.number c.in-Ok.ensures p);
+      (numbered_next file_line name_view c.args.files.now c.files.number c.files.file-index _ r _ _ new c.files-test.true c.files.invariant.number c.in_ok-push_file.ensures p);
 }
 
-pub returns-in-Err : goal.returns-in-Err
-returns-in-Err c = c.files.invariant.text (Err c.in-Err.error) _ c.in-Err.ensures
+pub returns-in_err-push_file : goal.returns-in_err-push_file
+returns-in_err-push_file c =
+    let part = c.files.invariant.text (Err c.in_err-push_file.field-0.0) _ c.in_err-push_file.ensures in
+    search rules
 
 pub returns : goal.returns
 returns c = c.files.invariant.text (Ok tt) _ (numbered_end file_line name_view _ c.files.file-index _ c.files-test.false)

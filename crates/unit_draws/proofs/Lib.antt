@@ -1,0 +1,6 @@
+pub mod Sums
+pub mod Occurrences
+pub mod Places
+pub mod Keeping
+pub mod Steps
+pub mod SeatSteps

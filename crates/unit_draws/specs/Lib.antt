@@ -1,0 +1,4 @@
+pub mod Windows
+pub mod Seats
+pub mod Rule
+pub mod TestStates

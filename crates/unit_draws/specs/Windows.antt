@@ -1,0 +1,17 @@
+-- The windows that a file's units stand in, 256 units each.
+use Rattle.std.specs.Prelude.{ℕ, ◌+◌, ◌-◌, ◌*◌, ◌/◌, ◌<◌, ◌≤◌, min}
+use Rattle.unit_draws.specs.declared.windows.TheConstants.{WINDOW}
+
+-- As many as the last unit needs. A file without units has one window, which is empty.
+abbrev pub window_count : ℕ → ℕ
+window_count units = (units - 1) / WINDOW + 1
+
+-- The last window may have fewer units than the others.
+abbrev pub window_length : ℕ → ℕ → ℕ
+window_length units window = min WINDOW (units - WINDOW * window)
+
+-- the unit is one of the file's, and stands in this window
+pub record IsUnitOfWindow (units window unit : ℕ) : Type 0 where
+  pub counted : unit < units
+  pub from : WINDOW * window ≤ unit
+  pub below : unit < WINDOW * (window + 1)

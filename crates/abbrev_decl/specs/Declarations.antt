@@ -18,7 +18,12 @@ head_at section place = do
     tag ← in_table (uleb_at (from section code.1))
     children ← in_table (number_at 1 (from section tag.1))
     refuse (nat_lt 1 children.0) (fault ChildrenByte tag.1)
-    Ok (Some (record { code = code.0; tag = tag.0; children = children.0 == 1; pairs = children.1 }))))
+    Ok (Some (record {
+      code = code.0;
+      tag = tag.0;
+      children = children.0 == 1;
+      pairs = children.1;
+    }))))
 
 -- A declaration that begins at a place, of its front and its pairs.
 abbrev pub at_head : ℕ → Head → List AttrSpec → DeclView

@@ -11,15 +11,18 @@ use Rattle.abbrev_decl.specs.Shapes.{DeclView}
 use Rattle.abbrev_decl.specs.Declarations.{declaration_at}
 
 -- The walk at what stands at a place: on behind a declaration of another code.
-abbrev pub first_on : Result (Option (DeclView × ℕ)) Fault → ℕ → (ℕ → Result DeclView FindFault) → Result DeclView FindFault
+abbrev pub first_on : Result (Option (DeclView × ℕ)) Fault → ℕ → (ℕ → Result DeclView FindFault)
+    → Result DeclView FindFault
 first_on (Err f) code others = Err (faults.Broken f)
 first_on (Ok None) code others = Err faults.CodeMissing
-first_on (Ok (Some (declaration, next))) code others = if declaration.code == code then Ok declaration else others next
+first_on (Ok (Some (declaration, next))) code others =
+    if declaration.code == code then Ok declaration else others next
 
 -- The walk over at most `most` declarations. At the section's end no declaration stands.
 abbrev pub first_from : ℕ → List ℕ → ℕ → ℕ → Result DeclView FindFault
 first_from zero section place code = Err (faults.Broken (fault DeclTruncated place))
-first_from (suc most) section place code = first_on (declaration_at section place) code (λ next. first_from most section next code)
+first_from (suc most) section place code =
+    first_on (declaration_at section place) code (λ next. first_from most section next code)
 
 -- The first declaration with a code, walking from a table's start. The walk ends at a code 0, where
 -- the code is missing, or at a fault. A section has fewer declarations than bytes.
@@ -46,17 +49,20 @@ declarations_walked section table code = walked_from (length section + 1) sectio
 abbrev pub OthersStand : List ℕ → ℕ → ℕ → List DeclView → ℕ → Type 0
 OthersStand section place code [] last = place ≡ last
 OthersStand section place code (other ∷ others) last =
-    (next : ℕ) × (declaration_at section place ≡ Ok (Some (other, next))) × (other.code ≢ code) × OthersStand section next code others last
+    (next : ℕ) × (declaration_at section place ≡ Ok (Some (other, next))) × (other.code ≢ code)
+    × OthersStand section next code others last
 
 -- What ends them: a declaration of the code, a code 0, or a fault.
 abbrev pub WalkEnds : List ℕ → ℕ → ℕ → Result DeclView FindFault → Type 0
 WalkEnds section last code (Ok declaration) =
-    (declaration.code ≡ code) × (next : ℕ) × (declaration_at section last ≡ Ok (Some (declaration, next)))
+    (declaration.code ≡ code) × (next : ℕ)
+    × (declaration_at section last ≡ Ok (Some (declaration, next)))
 WalkEnds section last code (Err faults.CodeMissing) = declaration_at section last ≡ Ok None
 WalkEnds section last code (Err (faults.Broken f)) = declaration_at section last ≡ Err f
 
 -- The walk's answer, and how many declarations it reads: the others, and what ends them.
-pub record IsFirst (section : List ℕ) (table code walked : ℕ) (answer : Result DeclView FindFault) : Type 0 where
+pub record IsFirst (section : List ℕ) (table code walked : ℕ)
+    (answer : Result DeclView FindFault) : Type 0 where
   pub others : List DeclView
   pub last : ℕ
   pub stand : OthersStand section table code others last
@@ -88,7 +94,8 @@ pub record LeavesSource (section later known grown : List ℕ) (full now : Bool)
   pub spent : full ≡ true → now ≡ true
 
 -- So does a source that stays as it is and remembers nothing.
-pub left_alone : (section later : List ℕ) → section ≡ later → LeavesSource section later [] [] true true
+pub left_alone : (section later : List ℕ) → section ≡ later
+    → LeavesSource section later [] [] true true
 left_alone section later same = record {
   kept = sym same;
   seen = record { more = []; is = refl };

@@ -43,7 +43,8 @@ in_front pair (Ok others) = Ok (pair ∷ others.0, others.1)
 in_front pair (Err f) = Err f
 
 -- What a pair, or the pair 0, 0, makes of the pairs behind it.
-abbrev pub pairs_on : Result (Option AttrSpec × ℕ) Fault → (ℕ → Result (List AttrSpec × ℕ) Fault) → Result (List AttrSpec × ℕ) Fault
+abbrev pub pairs_on : Result (Option AttrSpec × ℕ) Fault → (ℕ → Result (List AttrSpec × ℕ) Fault)
+    → Result (List AttrSpec × ℕ) Fault
 pairs_on (Err f) others = Err f
 pairs_on (Ok (None, next)) others = Ok ([], next)
 pairs_on (Ok (Some pair, next)) others = in_front pair (others next)
@@ -51,7 +52,8 @@ pairs_on (Ok (Some pair, next)) others = in_front pair (others next)
 -- At most `most` pairs from a place. Behind the section's end no pair stands.
 abbrev pub pairs_from : ℕ → List ℕ → ℕ → Result (List AttrSpec × ℕ) Fault
 pairs_from zero section place = Err (fault DeclTruncated place)
-pairs_from (suc most) section place = pairs_on (pair_at (from section place)) (λ next. pairs_from most section next)
+pairs_from (suc most) section place =
+    pairs_on (pair_at (from section place)) (λ next. pairs_from most section next)
 
 -- The pairs from a place up to the first pair 0, 0, and the place behind that pair; or the first
 -- fault. A section has fewer pairs than bytes.
@@ -62,15 +64,19 @@ pairs_at section place = pairs_from (length section + 1) section place
 -- none of them is the pair 0, 0.
 abbrev pub PairsStand : List ℕ → ℕ → List AttrSpec → ℕ → Type 0
 PairsStand section place [] last = place ≡ last
-PairsStand section place (pair ∷ pairs) last = (next : ℕ) × (pair_at (from section place) ≡ Ok (Some pair, next)) × PairsStand section next pairs last
+PairsStand section place (pair ∷ pairs) last =
+    (next : ℕ) × (pair_at (from section place) ≡ Ok (Some pair, next))
+    × PairsStand section next pairs last
 
 -- What ends them: the pair 0, 0, or a fault.
 abbrev pub PairsEnd : List ℕ → ℕ → List AttrSpec → Result (List AttrSpec × ℕ) Fault → Type 0
-PairsEnd section last pairs (Ok all) = (all.0 ≡ pairs) × (pair_at (from section last) ≡ Ok (None, all.1))
+PairsEnd section last pairs (Ok all) =
+    (all.0 ≡ pairs) × (pair_at (from section last) ≡ Ok (None, all.1))
 PairsEnd section last pairs (Err f) = pair_at (from section last) ≡ Err f
 
 -- The pairs of a declaration end at the first pair 0, 0, or at the first fault before it.
-pub record EndAtFirstZeroPair (section : List ℕ) (place : ℕ) (answer : Result (List AttrSpec × ℕ) Fault) : Type 0 where
+pub record EndAtFirstZeroPair (section : List ℕ) (place : ℕ)
+    (answer : Result (List AttrSpec × ℕ) Fault) : Type 0 where
   pub pairs : List AttrSpec
   pub last : ℕ
   pub stand : PairsStand section place pairs last

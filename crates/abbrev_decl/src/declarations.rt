@@ -6,7 +6,7 @@ ghost use Rattle.abbrev_decl.specs.Pairs.{PairsWereRead, TakesPair, pairs_of, pa
 ghost use Rattle.abbrev_decl.specs.Declarations.{EndsInside, HeadInside, Stands, StandsAs, at_head, declaration_at, head_at};
 
 use crate::counter::Steps;
-use crate::pairs::{AttrSpec, in_table, read_pair, skip_pairs, whole};
+use crate::pairs::{AttrSpec, count_pairs, in_table, read_pair, skip_pairs, whole};
 use dw_fields::{Code, Fault};
 use std::marker::Model;
 
@@ -108,6 +108,13 @@ impl<'f> Model for Attrs<'f> {
 }
 
 impl<'f> Attrs<'f> {
+    /// How many pairs are left.
+    pub fn count(&self) -> usize
+        ensures { result ≡ length self.now }
+    {
+        count_pairs(self.section, self.place)
+    }
+
     /// The next pair; `None` behind the last one.
     pub fn next(&mut self) -> Option<AttrSpec>
         ensures { TakesPair result self.old self.new }

@@ -59,9 +59,12 @@ pub trait Decls<'f> {
         ensures follows { follows self.old self.new }
         ensures counted { counts self.old table code steps.old steps.new }
         ensures never_less { steps.old ≤ steps.new }
-        ensures known { code < 2 ^ 32 → Contains (seen self.old) (key table code) → steps.new ≡ steps.old }
-        ensures placed { PlacesAtMost (placed self.old) (placed self.new) (key table code) (IsSmallFound code result) }
-        ensures noted { code < 2 ^ 32 → OnOk result (Notes (seen self.new) (spent self.new) (key table code)) };
+        ensures known { code < 2 ^ 32 → Contains (seen self.old) (key table code)
+            → steps.new ≡ steps.old }
+        ensures placed { PlacesAtMost (placed self.old) (placed self.new) (key table code)
+            (IsSmallFound code result) }
+        ensures noted { code < 2 ^ 32
+            → OnOk result (Notes (seen self.new) (spent self.new) (key table code)) };
 
     ghost reflexive: { (x : Self) → follows x x };
 
@@ -105,7 +108,8 @@ impl<'f> Decls<'f> for Scanner<'f> {
 
     ghost follows = { λ s t. s ≡ t };
 
-    ghost counts = { λ s table code old new. new ≡ ticked_by (declarations_walked s table code) old };
+    ghost counts = { λ s table code old new.
+        new ≡ ticked_by (declarations_walked s table code) old };
 
     fn find<L>(
         &mut self,
@@ -132,7 +136,8 @@ fn scan<'f, L>(
 ) -> Result<Decl<'f>, FindFault>
     requires { table ≤ length section.now }
     ensures answer { result ≡ first_declaration section.entry.now table code }
-    ensures counted { steps.new ≡ ticked_by (declarations_walked section.entry.now table code) steps.old }
+    ensures counted { steps.new
+        ≡ ticked_by (declarations_walked section.entry.now table code) steps.old }
     ensures never_less { steps.old ≤ steps.new }
 {
     let mut place = table;
@@ -160,6 +165,7 @@ fn scan<'f, L>(
 ///
 /// This is a law, for proofs; the call does nothing.
 pub fn first_declaration_is_first(section: &[u8], table: u64, code: u64)
-    ensures first { IsFirst section.now table code (declarations_walked section.now table code) (first_declaration section.now table code) }
+    ensures first { IsFirst section.now table code (declarations_walked section.now table code)
+        (first_declaration section.now table code) }
     ensures stands { IfOk (first_declaration section.now table code) (StandsInside section.now) }
 {}

@@ -2,7 +2,7 @@
 
 ghost use Rattle.std.specs.Prelude.{◌≡◌, ◌≤◌, ◌+◌, length, IfOk, IfSome, OnOk};
 ghost use Rattle.dw_fields.specs.Reading.{Moves, Onward, Reads};
-ghost use Rattle.abbrev_decl.specs.Pairs.{EndAtFirstZeroPair, Skips, from, implicit_at, in_table, pair_at, pairs_at, short_pair as pair_of_bytes};
+ghost use Rattle.abbrev_decl.specs.Pairs.{EndAtFirstZeroPair, PairsWereRead, Skips, from, implicit_at, in_table, pair_at, pairs_at, pairs_of, short_pair as pair_of_bytes};
 
 use dw_fields::{Code, Cut, Fault, Order, renamed};
 use dw_numbers::form;
@@ -86,7 +86,9 @@ fn read_long_pair(section: &[u8], place: u64) -> Result<(Option<AttrSpec>, u64),
 #[inline]
 fn short_pair(section: &[u8], place: u64) -> Option<(u8, u8)>
     requires { place ≤ length section.now }
-    ensures { IfSome result (λ pair. (pair_at (from section.now place) ≡ Ok (pair_of_bytes pair.0 pair.1, place + 2)) × (place + 2 ≤ length section.now)) }
+    ensures { IfSome result (λ pair.
+        (pair_at (from section.now place) ≡ Ok (pair_of_bytes pair.0 pair.1, place + 2))
+        × (place + 2 ≤ length section.now)) }
 {
     match &section[place as usize..] {
         [name, form, ..] => {
@@ -133,6 +135,25 @@ pub(crate) fn skip_pairs(section: &[u8], start: u64) -> Result<u64, Fault>
             Ok((Some(_), next)) => place = next,
             Ok((None, next)) => return Ok(next),
             Err(fault) => return Err(fault),
+        }
+    }
+}
+
+/// How many pairs a declaration has, which begin at `start` and were read before.
+pub(crate) fn count_pairs(section: &[u8], start: u64) -> usize
+    requires { PairsWereRead section.now start }
+    ensures { result ≡ length (pairs_of (pairs_at section.now start)) }
+{
+    let mut place = start;
+    let mut count = 0;
+    'pairs: loop {
+        match read_pair(section, place) {
+            Ok((Some(_), next)) => {
+                place = next;
+                count += 1;
+            }
+            Ok((None, _)) => return count,
+            Err(_) => unreachable!(),
         }
     }
 }

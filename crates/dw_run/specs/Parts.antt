@@ -35,7 +35,7 @@ unfoldable pub part_of : Part → SectionsView → UnitHeader → Text
 part_of parts.Line s header = Ok (unit_line header)
 part_of parts.Entries s header = do
   unit ← unit_of s header
-  read_unit_text header s unit.0.bases unit.1
+  read_unit_text (record { sections = s; header = header; facts = unit.0 }) unit.1
 part_of parts.LineTable s header = do
   facts ← facts_of s header
   lines_text s header facts.line

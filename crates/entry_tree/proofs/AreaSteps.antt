@@ -10,7 +10,7 @@ use Rattle.unit_headers.specs.declared.refusal.UnitRefusal.TheVariants.{Refused,
 use Rattle.unit_headers.specs.Refusals.{Refuses}
 use Rattle.entry_tree.specs.Views.{EntryView}
 use Rattle.entry_tree.specs.Keys.{GainsOnly, IsKeyAmong, KeysKnown, KeysNoted}
-use Rattle.entry_tree.specs.KeyLaws.{GainsOnly-then, GainsOnly-weaker, IsKeyAmong-front, IsKeyAmong-back, KeysKnown-front, KeysKnown-back, KeysKnown-later, KeysNoted-append, KeysNoted-later}
+use Rattle.entry_tree.proofs.KeyLaws.{GainsOnly-then, GainsOnly-weaker, IsKeyAmong-front, IsKeyAmong-back, KeysKnown-front, KeysKnown-back, KeysKnown-later, KeysNoted-append, KeysNoted-later}
 
 pub area_next : (next : ℕ → Reader (ℕ × List EntryView)) (m n depth after : ℕ) (s later : Span) (front more both : List EntryView) (whole : Result (List EntryView) Fault)
     → m ≡ suc n → s.place < s.end → next depth s ≡ Ok ((after, more), later.place) → later ≡ at s later.place → both ≡ front ++ more

@@ -1,4 +1,7 @@
 pub mod AreaSteps
 pub mod AttrSteps
 pub mod FirstCode
-pub mod ToldSteps
+pub mod KeyLaws
+pub mod RootLaws
+pub mod RootSteps
+pub mod TileLaws

@@ -13,7 +13,7 @@ use Rattle.abbrev_decl.specs.Shapes.{DeclView}
 use Rattle.abbrev_decl.specs.Lookup.{first_declaration}
 use Rattle.form_values.specs.declared.raw.Widths.{Widths}
 use Rattle.form_values.specs.FormTable.{value_at}
-use Rattle.entry_tree.specs.declared.first.Coded.{Coded}
+use Rattle.entry_tree.specs.declared.first.RootCode.{RootCode}
 use Rattle.entry_tree.specs.Views.{AttrView, EntryView}
 
 -- the attribute of a pair
@@ -42,14 +42,22 @@ unfoldable pub coded_at : List ℕ → ℕ → Widths → ℕ → ℕ → ℕ �
 coded_at section table widths depth place code s = do
   declaration ← found_at place (first_declaration section table code)
   attrs ← attrs_at widths declaration.pairs s
-  Ok ((declaration.children, record { place = place; depth = depth; code = code; tag = declaration.tag; attrs = attrs.0 }), attrs.1)
+  Ok (
+    (
+      declaration.children,
+      record
+          { place = place; depth = depth; code = code; tag = declaration.tag; attrs = attrs.0 },
+    ),
+    attrs.1,
+  )
 
 -- behind an entry with children the depth is one more
 abbrev pub depth_behind : Bool → ℕ → ℕ
 depth_behind children depth = if children then depth + 1 else depth
 
 -- an entry, with the depth behind it in place of whether it has children
-abbrev pub behind_entry : ℕ → Result ((Bool × EntryView) × ℕ) Fault → Result ((ℕ × EntryView) × ℕ) Fault
+abbrev pub behind_entry : ℕ → Result ((Bool × EntryView) × ℕ) Fault
+    → Result ((ℕ × EntryView) × ℕ) Fault
 behind_entry depth (Ok read) = Ok ((depth_behind read.0.0 depth, read.0.1), read.1)
 behind_entry depth (Err f) = Err f
 
@@ -67,7 +75,7 @@ unfoldable pub entries_in : List ℕ → ℕ → Widths → Span → Result (Lis
 entries_in section table widths s = walk (entry_at section table widths) (s.end - s.place) 0 s
 
 -- the first code that isn't 0, with its place and the place behind it
-abbrev pub first_code_from : ℕ → Span → Result (Option Coded) Fault
+abbrev pub first_code_from : ℕ → Span → Result (Option RootCode) Fault
 first_code_from zero s = Ok None
 first_code_from (suc most) s =
     if nat_le s.end s.place then Ok None else (do
@@ -75,11 +83,12 @@ first_code_from (suc most) s =
       (if code.0 == 0 then first_code_from most (at s code.1)
           else Ok (Some (record { place = s.place; code = code.0; next = code.1 }))))
 
-unfoldable pub first_code_in : Span → Result (Option Coded) Fault
+unfoldable pub first_code_in : Span → Result (Option RootCode) Fault
 first_code_in s = first_code_from (s.end - s.place) s
 
 -- the entry of the first code, with the place behind it
-abbrev pub root_coded : List ℕ → ℕ → Widths → Span → Option Coded → Result (Option (EntryView × ℕ)) Fault
+abbrev pub root_coded : List ℕ → ℕ → Widths → Span → Option RootCode
+    → Result (Option (EntryView × ℕ)) Fault
 root_coded section table widths s None = Ok None
 root_coded section table widths s (Some first) = do
   entry ← coded_at section table widths 0 first.place first.code (at s first.next)

@@ -1,8 +1,7 @@
 pub mod Views
 pub mod Entries
 pub mod Keys
-pub mod KeyLaws
 pub mod Facts
 pub mod Tiles
-pub mod Told
+pub mod RootValues
 pub mod Units

@@ -1,9 +1,9 @@
 -- How a contract sees entries and their attributes: without where they lie in memory.
 use Rattle.std.specs.Prelude.{ℕ, List, map, option_map, option_to_list}
 use Rattle.form_values.specs.View.{RawView, raw_view}
-use Rattle.entry_tree.specs.declared.shapes.Attr.{Attr}
-use Rattle.entry_tree.specs.declared.shapes.Entry.{Entry}
-use Rattle.entry_tree.specs.declared.shapes.Stepped.{Stepped}
+use Rattle.entry_tree.specs.declared.entry.Attr.{Attr}
+use Rattle.entry_tree.specs.declared.entry.Entry.{Entry}
+use Rattle.entry_tree.specs.declared.entry.Stepped.{Stepped}
 
 pub record AttrView : Type 0 where
   pub name : ℕ
@@ -22,7 +22,14 @@ abbrev pub attr_view : Attr → AttrView
 attr_view a = record { name = a.name; form = a.form; place = a.place; raw = raw_view a.raw }
 
 abbrev pub entry_view : Entry → EntryView
-entry_view e = record { place = e.place; depth = e.depth; code = e.code; tag = e.tag; attrs = map attr_view e.attrs.now }
+entry_view e =
+    record {
+      place = e.place;
+      depth = e.depth;
+      code = e.code;
+      tag = e.tag;
+      attrs = map attr_view e.attrs.now;
+    }
 
 -- what one code gave: the entry, if it isn't 0
 abbrev pub stepped_entries : Stepped → List EntryView

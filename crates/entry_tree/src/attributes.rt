@@ -7,7 +7,7 @@ ghost use Rattle.unit_headers.specs.Refusals.{AnswersAt};
 ghost use Rattle.entry_tree.specs.Views.{attr_view};
 ghost use Rattle.entry_tree.specs.Entries.{attr_at, attrs_at};
 
-use crate::shapes::Attr;
+use crate::entry::Attr;
 use abbrev_decl::{AttrSpec, Attrs};
 use bumpalo::Bump;
 use bumpalo::collections::into_bump_slice;
@@ -28,20 +28,19 @@ pub(crate) fn read_attr<'f>(
     ensures forward { OnOk result (cut.old.place ≤ cut.new.place) }
 {
     let place = cut.place();
-    match read_value(cut, pair.form, header, pair.implicit) {
-        Ok(raw) => Ok(Attr {
-            name: pair.name,
-            form: pair.form,
-            place,
-            raw,
-        }),
-        Err(fault) => Err(fault),
-    }
+    let raw = read_value(cut, pair.form, header, pair.implicit)?;
+    Ok(Attr {
+        name: pair.name,
+        form: pair.form,
+        place,
+        raw,
+    })
 }
 
 /// Puts one more attribute at the list's end.
 fn add_attr<'a>(attrs: &mut Vec<Attr<'a>, &'a Bump>, attr: Attr<'a>) -> Result<(), AllocError>
-    ensures { OnOk result (map attr_view attrs.new.items ≡ map attr_view attrs.old.items ++ attr_view attr.entry ∷ []) }
+    ensures { OnOk result (map attr_view attrs.new.items
+        ≡ map attr_view attrs.old.items ++ attr_view attr.entry ∷ []) }
 {
     match attrs.push(attr) {
         Ok(()) => Ok(()),
@@ -49,7 +48,8 @@ fn add_attr<'a>(attrs: &mut Vec<Attr<'a>, &'a Bump>, attr: Attr<'a>) -> Result<(
     }
 }
 
-/// The attributes of the pairs, in the arena.
+/// The attributes of the pairs, in the arena. They are counted first: a list that grew there would
+/// leave each list that it outgrew.
 pub(crate) fn read_attrs<'a, 'f: 'a>(
     arena: &'a Bump,
     cut: &mut Cut<'f>,
@@ -57,10 +57,11 @@ pub(crate) fn read_attrs<'a, 'f: 'a>(
     pairs: Attrs<'f>,
 ) -> Result<&'a [Attr<'a>], UnitRefusal>
     requires { IsAddressSize header.now.address_size }
-    ensures attrs { AnswersAt (λ s. map attr_view s.now) result (attrs_at (widths_of header.now) pairs.entry) cut.old cut.new }
+    ensures attrs { AnswersAt (λ s. map attr_view s.now)
+        result (attrs_at (widths_of header.now) pairs.entry) cut.old cut.new }
     ensures forward { OnOk result (cut.old.place ≤ cut.new.place) }
 {
-    let mut attrs: Vec<Attr<'a>, &'a Bump> = Vec::new(arena);
+    let mut attrs: Vec<Attr<'a>, &'a Bump> = Vec::with_capacity(arena, pairs.count())?;
     let mut left = pairs;
     'pairs: while let Some(pair) = left.next() {
         let attr = match read_attr(cut, header, pair) {

@@ -1,7 +1,7 @@
 //! An entry's declaration, and what the asking leaves.
 
-ghost use Rattle.std.specs.Prelude.{◌≡◌, ◌<◌, ◌≤◌, ◌^◌, true, length, OnOk, IsOk, Contains};
-ghost use Rattle.abbrev_decl.specs.Lookup.{Extends, Notes, PlacesAtMost, first_declaration, key};
+ghost use Rattle.std.specs.Prelude.{◌≡◌, ◌<◌, ◌≤◌, ◌^◌, length, OnOk, Contains};
+ghost use Rattle.abbrev_decl.specs.Lookup.{IsSmallFound, Notes, PlacesAtMost, first_declaration, key};
 ghost use Rattle.entry_tree.specs.Entries.{found_at};
 
 use abbrev_decl::{Decl, Decls, FindFault, Steps};
@@ -18,20 +18,19 @@ pub(crate) fn find_declaration<'f, D: Decls<'f>, L>(
     requires inside { table ≤ length (D.section decls.old) }
     requires some { 0 < code }
     ensures answer { result ≡ found_at place (first_declaration (D.section decls.old) table code) }
-    ensures kept { D.section decls.new ≡ D.section decls.old }
     ensures follows { D.follows decls.old decls.new }
-    ensures seen { Extends (D.seen decls.old) (D.seen decls.new) }
-    ensures placed { PlacesAtMost (D.placed decls.old) (D.placed decls.new) (key table code) ((code < 2 ^ 32) × IsOk (first_declaration (D.section decls.old) table code)) }
-    ensures spent { D.spent decls.old ≡ true → D.spent decls.new ≡ true }
-    ensures noted { code < 2 ^ 32 → OnOk result (Notes (D.seen decls.new) (D.spent decls.new) (key table code)) }
-    ensures known { code < 2 ^ 32 → Contains (D.seen decls.old) (key table code) → steps.new ≡ steps.old }
+    ensures counted { D.counts decls.old table code steps.old steps.new }
+    ensures never_less { steps.old ≤ steps.new }
+    ensures placed { PlacesAtMost (D.placed decls.old) (D.placed decls.new) (key table code)
+        (IsSmallFound code (first_declaration (D.section decls.old) table code)) }
+    ensures noted { code < 2 ^ 32
+        → OnOk result (Notes (D.seen decls.new) (D.spent decls.new) (key table code)) }
+    ensures known { code < 2 ^ 32 → Contains (D.seen decls.old) (key table code)
+        → steps.new ≡ steps.old }
 {
     match decls.find(table, code, steps) {
         Ok(declaration) => Ok(declaration),
-        Err(FindFault::CodeMissing) => Err(Fault {
-            code: Code::CodeMissing,
-            place,
-        }),
+        Err(FindFault::CodeMissing) => Err(Fault::at(Code::CodeMissing, place)),
         Err(FindFault::Broken(fault)) => Err(fault),
     }
 }

@@ -1,20 +1,19 @@
 //! The entries of a unit.
 
-ghost use Rattle.std.specs.Prelude.{◌≡◌, ◌+◌, ◌-◌, ◌<◌, ◌≤◌, ◌^◌, ◌++◌, ◌∷◌, [], true, length, map, option_map, option_to_list, OnOk, IfOk, IsOk, Contains};
+ghost use Rattle.std.specs.Prelude.{◌≡◌, ◌+◌, ◌-◌, ◌<◌, ◌≤◌, ◌^◌, ◌++◌, ◌∷◌, [], length, map, option_map, option_to_list, OnOk, IfOk, Contains};
 ghost use Rattle.dw_fields.specs.Reading.{IsAddressSize};
-ghost use Rattle.abbrev_decl.specs.Lookup.{Extends, Notes, PlacesAtMost, first_declaration, key};
+ghost use Rattle.abbrev_decl.specs.Lookup.{IsSmallFound, Notes, PlacesAtMost, first_declaration, key};
 ghost use Rattle.elf_sections.specs.Shapes.{sections_view, AreShort};
 ghost use Rattle.form_values.specs.View.{widths_of};
 ghost use Rattle.unit_headers.specs.Refusals.{Answers, AnswersAt};
 ghost use Rattle.entry_tree.specs.Views.{entry_view, stepped_entries, stepped_view};
 ghost use Rattle.entry_tree.specs.Entries.{depth_behind, behind_entry, coded_at, entry_at, entries_in};
 ghost use Rattle.entry_tree.specs.Keys.{GainsOnly, IsFoundKey, IsKeyAmong, KeysKnown, KeysNoted};
-ghost use Rattle.entry_tree.specs.Tiles.{EntriesTile};
-ghost use Rattle.entry_tree.specs.Units.{IsUnitOf, area_of, entries_of};
+ghost use Rattle.entry_tree.specs.Units.{IsUnitOf, entries_of};
 
 use crate::attributes::read_attrs;
 use crate::declared::find_declaration;
-use crate::shapes::{Entry, Stepped};
+use crate::entry::{Entry, Stepped};
 use abbrev_decl::{Decls, Steps};
 use bumpalo::Bump;
 use bumpalo::collections::into_bump_slice;
@@ -48,24 +47,24 @@ fn read_coded<'a, 'f: 'a, D: Decls<'f>, L>(
     requires size { IsAddressSize header.now.address_size }
     requires some { 0 < code }
     requires room { depth + 1 < 2 ^ 32 }
-    ensures entry { AnswersAt (λ r. (r.0, entry_view r.1)) result (λ s. behind_entry depth (coded_at (D.section decls.old) header.now.«abbrev» (widths_of header.now) depth place code s)) cut.old cut.new }
-    ensures forward { IfOk result (λ r. (cut.old.place ≤ cut.new.place) × (r.0 ≤ depth + 1) × (r.1.code ≡ code)) }
-    ensures kept { D.section decls.new ≡ D.section decls.old }
+    ensures entry { AnswersAt (λ r. (r.0, entry_view r.1))
+        result (λ s. behind_entry depth
+        (coded_at (D.section decls.old) header.now.«abbrev» (widths_of header.now)
+        depth place code s)) cut.old cut.new }
+    ensures forward { IfOk result
+        (λ r. (cut.old.place ≤ cut.new.place) × (r.0 ≤ depth + 1) × (r.1.code ≡ code)) }
     ensures follows { D.follows decls.old decls.new }
-    ensures seen { Extends (D.seen decls.old) (D.seen decls.new) }
-    ensures spent { D.spent decls.old ≡ true → D.spent decls.new ≡ true }
-    ensures placed { PlacesAtMost (D.placed decls.old) (D.placed decls.new) (key header.now.«abbrev» code) ((code < 2 ^ 32) × IsOk (first_declaration (D.section decls.old) header.now.«abbrev» code)) }
-    ensures noted { code < 2 ^ 32 → OnOk result (Notes (D.seen decls.new) (D.spent decls.new) (key header.now.«abbrev» code)) }
-    ensures known { code < 2 ^ 32 → Contains (D.seen decls.old) (key header.now.«abbrev» code) → steps.new ≡ steps.old }
+    ensures placed { PlacesAtMost (D.placed decls.old) (D.placed decls.new)
+        (key header.now.«abbrev» code)
+        (IsSmallFound code (first_declaration (D.section decls.old) header.now.«abbrev» code)) }
+    ensures noted { code < 2 ^ 32
+        → OnOk result (Notes (D.seen decls.new) (D.spent decls.new)
+        (key header.now.«abbrev» code)) }
+    ensures known { code < 2 ^ 32 → Contains (D.seen decls.old) (key header.now.«abbrev» code)
+        → steps.new ≡ steps.old }
 {
-    let declaration = match find_declaration(decls, header.abbrev, code, place, steps) {
-        Ok(declaration) => declaration,
-        Err(fault) => return Err(UnitRefusal::Refused(fault)),
-    };
-    let attrs = match read_attrs(arena, cut, header, declaration.attrs()) {
-        Ok(attrs) => attrs,
-        Err(refusal) => return Err(refusal),
-    };
+    let declaration = find_declaration(decls, header.abbrev, code, place, steps)?;
+    let attrs = read_attrs(arena, cut, header, declaration.attrs())?;
     let entry = Entry {
         place,
         depth,
@@ -89,35 +88,37 @@ fn read_entry<'a, 'f: 'a, D: Decls<'f>, L>(
     requires inside { header.now.«abbrev» ≤ length (D.section decls.old) }
     requires size { IsAddressSize header.now.address_size }
     requires room { depth + 1 < 2 ^ 32 }
-    ensures entry { AnswersAt stepped_view result (entry_at (D.section decls.old) header.now.«abbrev» (widths_of header.now) depth) cut.old cut.new }
-    ensures forward { IfOk result (λ s. (cut.old.place + 1 ≤ cut.new.place) × (s.depth ≤ depth + 1)) }
-    ensures kept { D.section decls.new ≡ D.section decls.old }
+    ensures entry { AnswersAt stepped_view result
+        (entry_at (D.section decls.old) header.now.«abbrev» (widths_of header.now) depth)
+        cut.old cut.new }
+    ensures forward { IfOk result (λ s.
+        (cut.old.place + 1 ≤ cut.new.place) × (s.depth ≤ depth + 1)) }
     ensures follows { D.follows decls.old decls.new }
-    ensures seen { Extends (D.seen decls.old) (D.seen decls.new) }
-    ensures spent { D.spent decls.old ≡ true → D.spent decls.new ≡ true }
-    ensures placed { GainsOnly (IsFoundKey (D.section decls.old) header.now.«abbrev») (D.placed decls.old) (D.placed decls.new) }
-    ensures keys { IfOk result (λ s. GainsOnly (IsKeyAmong header.now.«abbrev» (stepped_entries s)) (D.placed decls.old) (D.placed decls.new)) }
-    ensures noted { IfOk result (λ s. KeysNoted (D.seen decls.new) (D.spent decls.new) header.now.«abbrev» (stepped_entries s)) }
-    ensures known { IfOk result (λ s. KeysKnown (D.seen decls.old) header.now.«abbrev» (stepped_entries s) → steps.new ≡ steps.old) }
+    ensures placed { GainsOnly (IsFoundKey (D.section decls.old) header.now.«abbrev»)
+        (D.placed decls.old) (D.placed decls.new) }
+    ensures keys { IfOk result
+        (λ s. GainsOnly (IsKeyAmong header.now.«abbrev» (stepped_entries s)) (D.placed decls.old)
+        (D.placed decls.new)) }
+    ensures noted { IfOk result
+        (λ s. KeysNoted (D.seen decls.new) (D.spent decls.new)
+        header.now.«abbrev» (stepped_entries s)) }
+    ensures known { IfOk result
+        (λ s. KeysKnown (D.seen decls.old) header.now.«abbrev» (stepped_entries s)
+        → steps.new ≡ steps.old) }
 {
     let place = cut.place();
-    let code = match cut.uleb() {
-        Ok(code) => code,
-        Err(fault) => return Err(UnitRefusal::Refused(fault)),
-    };
+    let code = cut.uleb()?;
     if code == 0 {
         return Ok(Stepped {
             depth: depth.saturating_sub(1),
             entry: None,
         });
     }
-    match read_coded(arena, decls, header, cut, depth, place, code, steps) {
-        Ok((depth, entry)) => Ok(Stepped {
-            depth,
-            entry: Some(entry),
-        }),
-        Err(refusal) => Err(refusal),
-    }
+    let (depth, entry) = read_coded(arena, decls, header, cut, depth, place, code, steps)?;
+    Ok(Stepped {
+        depth,
+        entry: Some(entry),
+    })
 }
 
 /// Puts an entry, if there is one, at the list's end.
@@ -125,7 +126,8 @@ fn add_entry<'a>(
     entries: &mut Vec<Entry<'a>, &'a Bump>,
     entry: Option<Entry<'a>>,
 ) -> Result<(), AllocError>
-    ensures { OnOk result (map entry_view entries.new.items ≡ map entry_view entries.old.items ++ option_to_list (option_map entry_view entry.entry)) }
+    ensures { OnOk result (map entry_view entries.new.items
+        ≡ map entry_view entries.old.items ++ option_to_list (option_map entry_view entry.entry)) }
 {
     match entry {
         Some(entry) => match entries.push(entry) {
@@ -137,7 +139,7 @@ fn add_entry<'a>(
 }
 
 /// The entries from the cut's place to its end.
-#[tactic(auto, using(crate::specs::Tiles::pieces_none), unfolding(crate::specs::Entries::entries_in))]
+#[tactic(auto, unfolding(crate::specs::Entries::entries_in))]
 fn read_area<'a, 'f: 'a, D: Decls<'f>, L>(
     arena: &'a Bump,
     decls: &mut D,
@@ -148,16 +150,21 @@ fn read_area<'a, 'f: 'a, D: Decls<'f>, L>(
     requires inside { header.now.«abbrev» ≤ length (D.section decls.old) }
     requires size { IsAddressSize header.now.address_size }
     requires short { cut.old.end < 2 ^ 32 }
-    ensures entries { Answers (λ s. map entry_view s.now) result (entries_in (D.section decls.old) header.now.«abbrev» (widths_of header.now) cut.old) }
-    ensures tile { IfOk result (λ s. EntriesTile (D.section decls.old) header.now.«abbrev» (widths_of header.now) cut.old (map entry_view s.now)) }
-    ensures kept { D.section decls.new ≡ D.section decls.old }
+    ensures entries { Answers (λ s. map entry_view s.now)
+        result (entries_in (D.section decls.old) header.now.«abbrev» (widths_of header.now)
+        cut.old) }
     ensures follows { D.follows decls.old decls.new }
-    ensures seen { Extends (D.seen decls.old) (D.seen decls.new) }
-    ensures spent { D.spent decls.old ≡ true → D.spent decls.new ≡ true }
-    ensures placed { GainsOnly (IsFoundKey (D.section decls.old) header.now.«abbrev») (D.placed decls.old) (D.placed decls.new) }
-    ensures keys { IfOk result (λ s. GainsOnly (IsKeyAmong header.now.«abbrev» (map entry_view s.now)) (D.placed decls.old) (D.placed decls.new)) }
-    ensures noted { IfOk result (λ s. KeysNoted (D.seen decls.new) (D.spent decls.new) header.now.«abbrev» (map entry_view s.now)) }
-    ensures known { IfOk result (λ s. KeysKnown (D.seen decls.old) header.now.«abbrev» (map entry_view s.now) → steps.new ≡ steps.old) }
+    ensures placed { GainsOnly (IsFoundKey (D.section decls.old) header.now.«abbrev»)
+        (D.placed decls.old) (D.placed decls.new) }
+    ensures keys { IfOk result
+        (λ s. GainsOnly (IsKeyAmong header.now.«abbrev» (map entry_view s.now)) (D.placed decls.old)
+        (D.placed decls.new)) }
+    ensures noted { IfOk result
+        (λ s. KeysNoted (D.seen decls.new) (D.spent decls.new)
+        header.now.«abbrev» (map entry_view s.now)) }
+    ensures known { IfOk result
+        (λ s. KeysKnown (D.seen decls.old) header.now.«abbrev» (map entry_view s.now)
+        → steps.new ≡ steps.old) }
 {
     let mut entries: Vec<Entry<'a>, &'a Bump> = Vec::new(arena);
     let mut depth = 0;
@@ -179,9 +186,11 @@ fn read_area<'a, 'f: 'a, D: Decls<'f>, L>(
     Ok(into_bump_slice(entries))
 }
 
-/// Reads the entries of a unit into the arena, in their order.
+/// Reads the entries of a unit into the arena, in their order (DWARF 5 section 7.5.2). Places are
+/// offsets from the start of `.debug_info`.
 ///
 /// The header is that of a unit of these sections, and the source's section is `.debug_abbrev`.
+/// `decls` is asked for the codes of the unit's entries, and for no other.
 ///
 /// # Errors
 /// The first refusal in the order of reading. `CodeMissing` at an entry whose code isn't in the unit's
@@ -198,16 +207,20 @@ pub fn read_entries<'a, 'f: 'a, D: Decls<'f>, L>(
     requires section { D.section decls.old ≡ (sections_view sections.now).«abbrev» }
     requires unit { IsUnitOf (sections_view sections.now) header.now }
     requires short { AreShort (sections_view sections.now) }
-    ensures entries { Answers (λ s. map entry_view s.now) result (entries_of (sections_view sections.entry.now) header.now) }
-    ensures tile { IfOk result (λ s. EntriesTile (sections_view sections.entry.now).«abbrev» header.now.«abbrev» (widths_of header.now) (area_of (sections_view sections.entry.now) header.now) (map entry_view s.now)) }
-    ensures kept { D.section decls.new ≡ D.section decls.old }
+    ensures entries { Answers (λ s. map entry_view s.now)
+        result (entries_of (sections_view sections.entry.now) header.now) }
     ensures follows { D.follows decls.old decls.new }
-    ensures seen { Extends (D.seen decls.old) (D.seen decls.new) }
-    ensures spent { D.spent decls.old ≡ true → D.spent decls.new ≡ true }
-    ensures placed { GainsOnly (IsFoundKey (D.section decls.old) header.now.«abbrev») (D.placed decls.old) (D.placed decls.new) }
-    ensures keys { IfOk result (λ s. GainsOnly (IsKeyAmong header.now.«abbrev» (map entry_view s.now)) (D.placed decls.old) (D.placed decls.new)) }
-    ensures noted { IfOk result (λ s. KeysNoted (D.seen decls.new) (D.spent decls.new) header.now.«abbrev» (map entry_view s.now)) }
-    ensures known { IfOk result (λ s. KeysKnown (D.seen decls.old) header.now.«abbrev» (map entry_view s.now) → steps.new ≡ steps.old) }
+    ensures placed { GainsOnly (IsFoundKey (D.section decls.old) header.now.«abbrev»)
+        (D.placed decls.old) (D.placed decls.new) }
+    ensures keys { IfOk result
+        (λ s. GainsOnly (IsKeyAmong header.now.«abbrev» (map entry_view s.now)) (D.placed decls.old)
+        (D.placed decls.new)) }
+    ensures noted { IfOk result
+        (λ s. KeysNoted (D.seen decls.new) (D.spent decls.new)
+        header.now.«abbrev» (map entry_view s.now)) }
+    ensures known { IfOk result
+        (λ s. KeysKnown (D.seen decls.old) header.now.«abbrev» (map entry_view s.now)
+        → steps.new ≡ steps.old) }
 {
     let mut cut = Cut::new(sections.info, header.entries, header.end, sections.order);
     read_area(arena, decls, header, &mut cut, steps)

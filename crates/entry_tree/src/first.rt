@@ -6,19 +6,23 @@ ghost use Rattle.entry_tree.specs.Entries.{first_code_in};
 
 use dw_fields::{Cut, Fault};
 
-/// A code that isn't 0, its place, and the place behind it.
+/// The code of a unit's root: its first code that isn't 0 (DWARF 5 section 7.5.2).
 #[derive(Clone, Copy, Debug)]
-pub(crate) struct Coded {
+pub struct RootCode {
+    /// Its place in `.debug_info`, which is the root's.
     pub place: u64,
+    /// The code.
     pub code: u64,
+    /// The place behind it.
     pub next: u64,
 }
 
 /// The first code that isn't 0; the cut then stands behind it.
 #[tactic(auto, unfolding(crate::specs::Entries::first_code_in))]
-pub(crate) fn first_code(cut: &mut Cut<'_>) -> Result<Option<Coded>, Fault>
+pub(crate) fn first_code(cut: &mut Cut<'_>) -> Result<Option<RootCode>, Fault>
     ensures first { result ≡ first_code_in cut.old }
-    ensures behind { IfOk result (λ found. IfSome found (λ root. (cut.new ≡ at cut.old root.next) × (0 < root.code))) }
+    ensures behind { IfOk result (λ found. IfSome found (λ root.
+        (cut.new ≡ at cut.old root.next) × (0 < root.code))) }
 {
     let turns = cut.left();
     'zeros: for _turn in 0..turns {
@@ -26,12 +30,9 @@ pub(crate) fn first_code(cut: &mut Cut<'_>) -> Result<Option<Coded>, Fault>
             return Ok(None);
         }
         let place = cut.place();
-        let code = match cut.uleb() {
-            Ok(code) => code,
-            Err(fault) => return Err(fault),
-        };
+        let code = cut.uleb()?;
         if code != 0 {
-            return Ok(Some(Coded {
+            return Ok(Some(RootCode {
                 place,
                 code,
                 next: cut.place(),

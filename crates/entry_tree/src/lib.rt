@@ -10,13 +10,16 @@
 mod attributes;
 mod declared;
 mod entries;
+mod entry;
 mod first;
+mod laws;
 mod root;
-mod shapes;
+mod root_values;
 #[cfg(test)]
 mod tests;
-mod told;
 
 pub use entries::read_entries;
+pub use entry::{Attr, Entry};
+pub use first::RootCode;
+pub use laws::{entries_tile_the_unit, facts_are_of_the_first_entry};
 pub use root::root_facts;
-pub use shapes::{Attr, Entry};

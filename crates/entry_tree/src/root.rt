@@ -1,20 +1,20 @@
 //! What the first entry of a unit says of the unit (DWARF 5 section 3.1.1).
 
-ghost use Rattle.std.specs.Prelude.{◌≡◌, ◌+◌, ◌<◌, ◌≤◌, ◌^◌, true, length, option_map, OnOk, IsOk, Contains, IsTrue};
+ghost use Rattle.std.specs.Prelude.{◌≡◌, ◌+◌, ◌<◌, ◌≤◌, ◌^◌, length, option_map, OnOk, IfOk, IfSome, Contains};
 ghost use Rattle.dw_fields.specs.Reading.{IsAddressSize, Reads};
 ghost use Rattle.abbrev_decl.specs.Counting.{ticked};
-ghost use Rattle.abbrev_decl.specs.Lookup.{Extends, Notes, PlacesAtMost, first_declaration, key};
+ghost use Rattle.abbrev_decl.specs.Lookup.{IsSmallFound, Notes, PlacesAtMost, first_declaration, key};
 ghost use Rattle.elf_sections.specs.Shapes.{sections_view};
 ghost use Rattle.form_values.specs.View.{is_address, raw_view, widths_of};
 ghost use Rattle.entry_tree.specs.Entries.{coded_at};
-ghost use Rattle.entry_tree.specs.Facts.{base_of, bases_of, low_pc_of, told_facts};
-ghost use Rattle.entry_tree.specs.Keys.{RootKnown, RootNoted, RootPlaces};
-ghost use Rattle.entry_tree.specs.Told.{told_of_entry, told_view};
+ghost use Rattle.entry_tree.specs.Facts.{BasesFit, FactsFit, base_of, bases_of, low_pc_of, facts_of_values};
+ghost use Rattle.entry_tree.specs.Keys.{RootCounts, RootKnown, RootNoted, RootPlaces};
+ghost use Rattle.entry_tree.specs.RootValues.{values_of_entry, root_values_view};
 ghost use Rattle.entry_tree.specs.Units.{IsUnitOf, facts_of, root_code_of};
 
 use crate::declared::find_declaration;
-use crate::first::{Coded, first_code};
-use crate::told::{Told, read_told};
+use crate::first::{RootCode, first_code};
+use crate::root_values::{RootValues, read_values};
 use abbrev_decl::{Decls, Steps};
 use dw_fields::{Cut, Fault};
 use elf_sections::Sections;
@@ -27,7 +27,8 @@ const BASE_LIMIT: u64 = 1 << 40;
 /// An offset into a section, if the value is one.
 #[tactic(auto, unfolding(crate::specs::Facts::base_of))]
 fn base_of(raw: Option<Raw<'_>>) -> Option<u64>
-    ensures { result ≡ base_of (option_map raw_view raw.entry) }
+    ensures value { result ≡ base_of (option_map raw_view raw.entry) }
+    ensures most { IfSome result (λ n. n ≤ 2 ^ 40) }
 {
     match raw {
         Some(Raw::Offset(offset)) => Some(offset.min(BASE_LIMIT)),
@@ -38,14 +39,15 @@ fn base_of(raw: Option<Raw<'_>>) -> Option<u64>
 
 /// The unit's bases.
 #[tactic(auto, unfolding(crate::specs::Facts::bases_of))]
-fn bases_of(told: &Told<'_>) -> Bases
-    ensures { result ≡ bases_of (told_view told.entry.now) }
+fn bases_of(values: &RootValues<'_>) -> Bases
+    ensures values { result ≡ bases_of (root_values_view values.entry.now) }
+    ensures fit { BasesFit result }
 {
     Bases {
-        text: base_of(told.text),
-        address: base_of(told.address),
-        ranges: base_of(told.ranges),
-        locations: base_of(told.locations),
+        text: base_of(values.text),
+        address: base_of(values.address),
+        ranges: base_of(values.ranges),
+        locations: base_of(values.locations),
     }
 }
 
@@ -69,7 +71,9 @@ fn low_pc_of(
     bases: &Bases,
 ) -> Option<u64>
     requires { IsAddressSize header.now.address_size }
-    ensures { result ≡ low_pc_of (option_map raw_view raw.entry) header.now.address_size (sections_view sections.entry.now) bases.now }
+    ensures address { result ≡ low_pc_of (option_map raw_view raw.entry) header.now.address_size
+        (sections_view sections.entry.now) bases.now }
+    ensures fit { IfSome result (λ n. n < 2 ^ 64) }
 {
     match raw {
         Some(raw) => {
@@ -83,47 +87,57 @@ fn low_pc_of(
     }
 }
 
-/// The facts that a root tells which ends at `end`.
-#[tactic(auto, unfolding(crate::specs::Facts::told_facts))]
-fn told_facts(told: &Told<'_>, end: u64, header: &UnitHeader, sections: &Sections<'_>) -> UnitFacts
+/// The facts that the values of a root give which ends at `end`.
+#[tactic(auto, unfolding(crate::specs::Facts::facts_of_values))]
+fn facts_of_values(
+    values: &RootValues<'_>,
+    end: u64,
+    header: &UnitHeader,
+    sections: &Sections<'_>,
+) -> UnitFacts
     requires { IsAddressSize header.now.address_size }
-    ensures { result ≡ told_facts (told_view told.entry.now) end header.now.address_size (sections_view sections.entry.now) }
+    ensures facts { result ≡ facts_of_values (root_values_view values.entry.now) end
+        header.now.address_size (sections_view sections.entry.now) }
+    ensures fit { FactsFit end result }
 {
-    let bases = bases_of(told);
+    let bases = bases_of(values);
     UnitFacts {
         bases,
-        low_pc: low_pc_of(told.low_pc, header, sections, &bases),
-        line: base_of(told.line),
+        low_pc: low_pc_of(values.low_pc, header, sections, &bases),
+        line: base_of(values.line),
         root_end: Some(end),
     }
 }
 
-/// What the root tells whose code ends where the cut stands.
-#[tactic(auto, using(crate::proofs::ToldSteps::told_entry), unfolding(crate::specs::Entries::coded_at))]
+/// The values of the root whose code ends where the cut stands.
+#[tactic(auto, using(crate::proofs::RootSteps::values_entry), unfolding(crate::specs::Entries::coded_at))]
 fn read_root<'f, D: Decls<'f>, L>(
     decls: &mut D,
     header: &UnitHeader,
     cut: &mut Cut<'f>,
-    first: Coded,
+    first: RootCode,
     steps: &mut Steps<L>,
-) -> Result<Told<'f>, Fault>
+) -> Result<RootValues<'f>, Fault>
     requires inside { header.now.«abbrev» ≤ length (D.section decls.old) }
     requires size { IsAddressSize header.now.address_size }
     requires some { 0 < first.code }
-    ensures told { Reads told_view result (λ s. told_of_entry (coded_at (D.section decls.old) header.now.«abbrev» (widths_of header.now) 0 first.place first.code s)) cut.old cut.new }
-    ensures kept { D.section decls.new ≡ D.section decls.old }
+    ensures values { Reads root_values_view result
+        (λ s. values_of_entry (coded_at (D.section decls.old)
+        header.now.«abbrev» (widths_of header.now) 0 first.place first.code s)) cut.old cut.new }
     ensures follows { D.follows decls.old decls.new }
-    ensures seen { Extends (D.seen decls.old) (D.seen decls.new) }
-    ensures spent { D.spent decls.old ≡ true → D.spent decls.new ≡ true }
-    ensures placed { PlacesAtMost (D.placed decls.old) (D.placed decls.new) (key header.now.«abbrev» first.code) ((first.code < 2 ^ 32) × IsOk (first_declaration (D.section decls.old) header.now.«abbrev» first.code)) }
-    ensures noted { first.code < 2 ^ 32 → OnOk result (Notes (D.seen decls.new) (D.spent decls.new) (key header.now.«abbrev» first.code)) }
-    ensures known { first.code < 2 ^ 32 → Contains (D.seen decls.old) (key header.now.«abbrev» first.code) → steps.new ≡ steps.old }
+    ensures counted { D.counts decls.old header.now.«abbrev» first.code steps.old steps.new }
+    ensures placed { PlacesAtMost (D.placed decls.old) (D.placed decls.new)
+        (key header.now.«abbrev» first.code)
+        (IsSmallFound first.code
+        (first_declaration (D.section decls.old) header.now.«abbrev» first.code)) }
+    ensures noted { first.code < 2 ^ 32
+        → OnOk result (Notes (D.seen decls.new) (D.spent decls.new)
+        (key header.now.«abbrev» first.code)) }
+    ensures known { first.code < 2 ^ 32
+        → Contains (D.seen decls.old) (key header.now.«abbrev» first.code) → steps.new ≡ steps.old }
 {
-    let declaration = match find_declaration(decls, header.abbrev, first.code, first.place, steps) {
-        Ok(declaration) => declaration,
-        Err(fault) => return Err(fault),
-    };
-    read_told(cut, header, declaration.attrs())
+    let declaration = find_declaration(decls, header.abbrev, first.code, first.place, steps)?;
+    read_values(cut, header, declaration.attrs())
 }
 
 /// The facts of a unit without entries.
@@ -139,12 +153,14 @@ const NO_FACTS: UnitFacts = UnitFacts {
     root_end: None,
 };
 
-/// Reads the first entry of a unit and takes the facts of the unit from it. Zero codes before it are
+/// Reads the first entry of a unit and takes the facts of the unit from it (DWARF 5 section 3.1.1). Zero
+/// codes before it are
 /// passed over; a unit without entries has no facts. Counts one step beside those of the source.
 ///
 /// Of each attribute the first counts. A base or the line offset is taken where its value is an offset
 /// or an unsigned number, and one above 2^40, which lies past every section, is kept as 2^40. The
-/// lowest address is taken where its value can be resolved.
+/// lowest address is taken where its value can be resolved. `decls` is asked for the code of that entry
+/// alone, where there is one.
 ///
 /// # Errors
 /// The refusal met in reading the first entry, as in [`crate::read_entries`].
@@ -158,27 +174,25 @@ pub fn root_facts<'f, D: Decls<'f>, L>(
     requires section { D.section decls.old ≡ (sections_view sections.now).«abbrev» }
     requires unit { IsUnitOf (sections_view sections.now) header.now }
     ensures facts { result ≡ facts_of (sections_view sections.entry.now) header.now }
-    ensures kept { D.section decls.new ≡ D.section decls.old }
+    ensures fit { IfOk result (FactsFit (length (sections_view sections.entry.now).info)) }
     ensures follows { D.follows decls.old decls.new }
-    ensures seen { Extends (D.seen decls.old) (D.seen decls.new) }
-    ensures spent { D.spent decls.old ≡ true → D.spent decls.new ≡ true }
-    ensures placed { RootPlaces (D.section decls.old) header.now.«abbrev» (D.placed decls.old) (D.placed decls.new) (root_code_of (sections_view sections.entry.now) header.now) }
-    ensures noted { OnOk result (RootNoted (D.seen decls.new) (D.spent decls.new) header.now.«abbrev» (root_code_of (sections_view sections.entry.now) header.now)) }
-    ensures known { RootKnown (D.seen decls.old) header.now.«abbrev» (root_code_of (sections_view sections.entry.now) header.now) → steps.new ≡ ticked steps.old }
+    ensures counted { RootCounts (D.counts decls.old) header.now.«abbrev»
+        (root_code_of (sections_view sections.entry.now) header.now)
+        (ticked steps.old) steps.new }
+    ensures placed { RootPlaces (D.section decls.old) header.now.«abbrev» (D.placed decls.old)
+        (D.placed decls.new) (root_code_of (sections_view sections.entry.now) header.now) }
+    ensures noted { OnOk result
+        (RootNoted (D.seen decls.new) (D.spent decls.new)
+        header.now.«abbrev» (root_code_of (sections_view sections.entry.now) header.now)) }
+    ensures known { RootKnown (D.seen decls.old)
+        header.now.«abbrev» (root_code_of (sections_view sections.entry.now) header.now)
+        → steps.new ≡ ticked steps.old }
 {
     steps.tick();
     let mut cut = Cut::new(sections.info, header.entries, header.end, sections.order);
-    let found = match first_code(&mut cut) {
-        Ok(found) => found,
-        Err(fault) => return Err(fault),
+    let Some(first) = first_code(&mut cut)? else {
+        return Ok(NO_FACTS);
     };
-    let first = match found {
-        Some(first) => first,
-        None => return Ok(NO_FACTS),
-    };
-    let told = match read_root(decls, header, &mut cut, first, steps) {
-        Ok(told) => told,
-        Err(fault) => return Err(fault),
-    };
-    Ok(told_facts(&told, cut.place(), header, sections))
+    let values = read_root(decls, header, &mut cut, first, steps)?;
+    Ok(facts_of_values(&values, cut.place(), header, sections))
 }

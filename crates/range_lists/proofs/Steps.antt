@@ -8,11 +8,11 @@ use Rattle.dw_fields.specs.Codes.{fault}
 use Rattle.dw_fields.specs.Span.{Span, at}
 use Rattle.dw_fields.specs.Reading.{Reader}
 use Rattle.dw_fields.specs.Walk.{ahead, ahead-append, others-ahead}
-use Rattle.range_lists.specs.Turns.{list_from}
-use Rattle.range_lists.specs.declared.turns.Turn.{Turn}
+use Rattle.range_lists.specs.ListSteps.{list_from}
+use Rattle.range_lists.specs.declared.list_step.ListStep.{ListStep}
 
 -- an entry that goes on: what it lists is at the end of the front
-pub list_next : {X : Type 0} → (entry : ℕ → Reader (Option (Turn X))) (m n base : ℕ) (s new : Span) (front more : List X) (turn : Turn X)
+pub list_next : {X : Type 0} → (entry : ℕ → Reader (Option (ListStep X))) (m n base : ℕ) (s new : Span) (front more : List X) (turn : ListStep X)
     → m ≡ suc n → entry base s ≡ Ok (Some turn, new.place) → new ≡ at s new.place → more ≡ front ++ option_to_list turn.listed
     → ahead more (list_from entry n turn.base new) ≡ ahead front (list_from entry m base s)
 unfolding list_from
@@ -24,21 +24,21 @@ list_next entry m n base s new front more turn fuel e moved grown =
     ∙ ap (ahead front) (rw (fuel, e) (sym (others-ahead (option_to_list turn.listed) rest))))
 
 -- an entry that is refused is the answer
-pub list_fails : {X : Type 0} → (entry : ℕ → Reader (Option (Turn X))) (m n base : ℕ) (s : Span) (front : List X) (f : Fault)
+pub list_fails : {X : Type 0} → (entry : ℕ → Reader (Option (ListStep X))) (m n base : ℕ) (s : Span) (front : List X) (f : Fault)
     → m ≡ suc n → entry base s ≡ Err f
     → ahead front (list_from entry m base s) ≡ Err f
 unfolding list_from
 list_fails entry m n base s front f fuel e = rw (fuel, e) refl
 
 -- at the end of the list what was listed is the answer
-pub list_ends : {X : Type 0} → (entry : ℕ → Reader (Option (Turn X))) (m n base : ℕ) (s : Span) (front : List X) (place : ℕ)
+pub list_ends : {X : Type 0} → (entry : ℕ → Reader (Option (ListStep X))) (m n base : ℕ) (s : Span) (front : List X) (place : ℕ)
     → m ≡ suc n → entry base s ≡ Ok (None, place)
     → ahead front (list_from entry m base s) ≡ Ok front
 unfolding list_from
 list_ends entry m n base s front place fuel e = rw (fuel, e) (ap (λ xs. Ok xs) (append-nil front))
 
 -- where the section ends first, the list is refused
-pub list_stops : {X : Type 0} → (entry : ℕ → Reader (Option (Turn X))) (m base : ℕ) (s : Span) (front : List X)
+pub list_stops : {X : Type 0} → (entry : ℕ → Reader (Option (ListStep X))) (m base : ℕ) (s : Span) (front : List X)
     → m ≡ 0 → ahead front (list_from entry m base s) ≡ Err (fault ListUnended s.end)
 unfolding list_from
 list_stops entry m base s front none = rw none refl

@@ -43,8 +43,8 @@ unfoldable pub kind_number_at : Reader ℕ
 kind_number_at s = renamed Truncated ListUnended (number_at 1 s)
 
 -- the kind that begins an entry
-unfoldable pub kind_at : (ℕ → Option Kind) → Reader Kind
-kind_at kinds s = do
+unfoldable pub list_kind_at : (ℕ → Option Kind) → Reader Kind
+list_kind_at kinds s = do
   number ← kind_number_at s
   kind ← known_kind s.place (kinds number.0)
   Ok (kind, number.1)

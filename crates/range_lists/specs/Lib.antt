@@ -1,10 +1,7 @@
 pub mod Kinds
-pub mod Bounds
 pub mod Context
 pub mod Operands
-pub mod Turns
+pub mod ListSteps
 pub mod Ranges
 pub mod Locations
 pub mod Entries
-pub mod EntriesLaws
-pub mod PastLaws

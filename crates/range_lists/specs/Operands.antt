@@ -1,33 +1,28 @@
--- The operands of each kind of entry (DWARF 5, sections 2.6.2 and 2.17.3). One that passes the
--- section's end is refused as ListTruncated.
-use Rattle.std.specs.Prelude.{ℕ, Some, None, Result, Ok, Err}
+-- The operands of each kind of entry (DWARF 5, sections 2.6.2 and 2.17.3).
+use Rattle.std.specs.Prelude.{ℕ, ◌+◌, Some, None, Result, Ok, Err}
 use Rattle.dw_fields.specs.declared.fault_code.Fault.{Fault}
-use Rattle.dw_fields.specs.declared.fault_code.Code.{Code}
 use Rattle.dw_fields.specs.declared.fault_code.Code.TheVariants.{Truncated, ListTruncated}
-use Rattle.dw_fields.specs.Codes.{fault}
 use Rattle.dw_fields.specs.Span.{at}
-use Rattle.dw_fields.specs.Reading.{Reader, ◌>>=◌, number_at, uleb_at, renamed}
+use Rattle.dw_fields.specs.Reading.{Reader, ◌>>=◌, number_at, uleb_at, renamed, wrapped_address}
 use Rattle.form_values.specs.View.{AddressIndex}
-use Rattle.form_values.specs.Resolved.{address_of}
+use Rattle.form_values.specs.Resolved.{address_of, refused_at}
 use Rattle.range_lists.specs.declared.kinds.Kind.{Kind}
 use Rattle.range_lists.specs.declared.kinds.Kind.TheVariants as kinds
 use Rattle.range_lists.specs.declared.operands.Operands.{Operands}
 use Rattle.range_lists.specs.declared.operands.Operands.TheVariants.{End, Base, Bounds}
-use Rattle.range_lists.specs.Bounds.{sum_at}
 use Rattle.range_lists.specs.Context.{Context}
 
--- a cause that the resolution of an index gives, at the entry's kind
-abbrev pub refused_at : {X : Type 0} → ℕ → Result X Code → Result X Fault
-refused_at place (Ok x) = Ok x
-refused_at place (Err cause) = Err (fault cause place)
+-- An operand that passes the section's end is refused as ListTruncated.
+abbrev pub in_list : {X : Type 0} → Result X Fault → Result X Fault
+in_list read = renamed Truncated ListTruncated read
 
 -- a number
 unfoldable pub number_operand_at : Reader ℕ
-number_operand_at s = renamed Truncated ListTruncated (uleb_at s)
+number_operand_at s = in_list (uleb_at s)
 
 -- an address
 unfoldable pub address_operand_at : Context → Reader ℕ
-address_operand_at c s = renamed Truncated ListTruncated (number_at c.size s)
+address_operand_at c s = in_list (number_at c.size s)
 
 -- the address of an index in .debug_addr
 unfoldable pub index_at : Context → ℕ → Reader ℕ
@@ -49,13 +44,17 @@ unfoldable pub startx_length_at : Context → ℕ → Reader Operands
 startx_length_at c place s = do
   low ← index_at c place s
   size ← number_operand_at (at s low.1)
-  Ok (between low.0 (sum_at c.size low.0 size.0), size.1)
+  Ok (between low.0 (wrapped_address c.size (low.0 + size.0)), size.1)
 
 unfoldable pub offset_pair_at : Context → ℕ → Reader Operands
 offset_pair_at c base s = do
   first ← number_operand_at s
   second ← number_operand_at (at s first.1)
-  Ok (between (sum_at c.size base first.0) (sum_at c.size base second.0), second.1)
+  Ok (
+    between (wrapped_address c.size (base + first.0))
+        (wrapped_address c.size (base + second.0)),
+    second.1,
+  )
 
 unfoldable pub start_end_at : Context → Reader Operands
 start_end_at c s = do
@@ -67,7 +66,7 @@ unfoldable pub start_length_at : Context → Reader Operands
 start_length_at c s = do
   low ← address_operand_at c s
   size ← number_operand_at (at s low.1)
-  Ok (between low.0 (sum_at c.size low.0 size.0), size.1)
+  Ok (between low.0 (wrapped_address c.size (low.0 + size.0)), size.1)
 
 -- a base that was read
 abbrev pub based : Result (ℕ × ℕ) Fault → Result (Operands × ℕ) Fault

@@ -1,8 +1,8 @@
 //! The kinds of entries, and the numbers that each section has for them (DWARF 5, section 7.25,
-//! tables 7.30, and section 7.7.3, table 7.10).
+//! table 7.30, and section 7.7.3, table 7.10).
 ghost use Rattle.std.specs.Prelude.{◌≡◌};
 ghost use Rattle.dw_fields.specs.Reading.{Reads};
-ghost use Rattle.range_lists.specs.Kinds.{range_kind as kind_of_range, location_kind as kind_of_location, known_kind, kind_number_at, kind_at};
+ghost use Rattle.range_lists.specs.Kinds.{range_kind as kind_of_range, location_kind as kind_of_location, known_kind, kind_number_at, list_kind_at};
 
 use dw_fields::{Code, Cut, Fault, renamed};
 
@@ -24,9 +24,9 @@ pub(crate) enum Kind {
 ///
 /// # Errors
 /// `ListUnended` where the section ends here, `ListKind` where no kind has this number.
-#[tactic(auto, unfolding(crate::specs::Kinds::kind_at))]
+#[tactic(auto, unfolding(crate::specs::Kinds::list_kind_at))]
 pub(crate) fn read_range_kind(cut: &mut Cut) -> Result<Kind, Fault>
-    ensures { Reads (λ k. k) result (kind_at kind_of_range) cut.old cut.new }
+    ensures { Reads (λ k. k) result (list_kind_at kind_of_range) cut.old cut.new }
 {
     let place = cut.place();
     let number = kind_number(cut)?;
@@ -37,9 +37,9 @@ pub(crate) fn read_range_kind(cut: &mut Cut) -> Result<Kind, Fault>
 ///
 /// # Errors
 /// Those of a range list's kind.
-#[tactic(auto, unfolding(crate::specs::Kinds::kind_at))]
+#[tactic(auto, unfolding(crate::specs::Kinds::list_kind_at))]
 pub(crate) fn read_location_kind(cut: &mut Cut) -> Result<Kind, Fault>
-    ensures { Reads (λ k. k) result (kind_at kind_of_location) cut.old cut.new }
+    ensures { Reads (λ k. k) result (list_kind_at kind_of_location) cut.old cut.new }
 {
     let place = cut.place();
     let number = kind_number(cut)?;
@@ -60,10 +60,7 @@ fn known(kind: Option<Kind>, place: u64) -> Result<Kind, Fault>
 {
     match kind {
         Some(kind) => Ok(kind),
-        None => Err(Fault {
-            code: Code::ListKind,
-            place,
-        }),
+        None => Err(Fault::at(Code::ListKind, place)),
     }
 }
 

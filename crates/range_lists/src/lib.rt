@@ -11,13 +11,13 @@ mod bounds;
 mod context;
 mod kinds;
 mod laws;
+mod list_step;
 mod lists;
 mod locations;
 mod operands;
 mod ranges;
 #[cfg(test)]
 mod tests;
-mod turns;
 
 pub use bounds::Range;
 pub use laws::{locations_are_their_entries, ranges_are_their_entries};

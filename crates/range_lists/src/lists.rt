@@ -3,38 +3,39 @@ ghost use Rattle.std.specs.Prelude.{◌≡◌, ◌-◌, ◌++◌, OnOk, ℕ, Opt
 ghost use Rattle.dw_fields.specs.Reading.{IsAddressSize, Reader, Reads};
 ghost use Rattle.unit_headers.specs.Refusals.{Answers};
 ghost use Rattle.range_lists.specs.Context.{Context, context_view};
-ghost use Rattle.range_lists.specs.Turns.{list_at, span_from, turn_view};
-ghost use Rattle.range_lists.specs.declared.turns.Turn.{Turn};
+ghost use Rattle.range_lists.specs.ListSteps.{list_at, span_from, step_view};
+ghost use Rattle.range_lists.specs.declared.list_step.ListStep.{ListStep};
 
 use crate::context::UnitContext;
-use crate::turns::Turn;
+use crate::list_step::ListStep;
 use dw_fields::{Code, Cut, Fault, Order};
 use std::alloc::{AllocError, Global};
 use unit_headers::UnitRefusal;
 
 /// What the entries of a list of one section list.
 ///
-/// `Seen` is a value of this type without where its bytes lie, and `entry_at` is what stands at a
+/// `View` is a value of this type without where its bytes lie, and `entry_at` is what stands at a
 /// place, with the base of the offsets: none is the end of the list.
 pub(crate) trait Listed<'f>: Copy {
-    ghost Seen: { Type 0 };
+    ghost View: { Type 0 };
 
-    ghost seen: { Self → Seen };
+    ghost view: { Self → View };
 
-    ghost entry_at: { Context → ℕ → Reader (Option (Turn Seen)) };
+    ghost entry_at: { Context → ℕ → Reader (Option (ListStep View)) };
 
     /// Reads one entry; `None` is the end of the list.
     fn read_entry(
         cut: &mut Cut<'f>,
         unit: &UnitContext<'_, '_>,
         base: u64,
-    ) -> Result<Option<Turn<Self>>, Fault>
+    ) -> Result<Option<ListStep<Self>>, Fault>
         requires { IsAddressSize unit.now.header.now.address_size }
-        ensures { Reads (option_map (turn_view seen)) result (entry_at (context_view unit.now) base) cut.old cut.new };
+        ensures { Reads (option_map (step_view view)) result (entry_at (context_view unit.now) base)
+            cut.old cut.new };
 }
 
 /// The part of the section from the offset on. An offset past the end counts as the end.
-#[tactic(auto, unfolding(crate::specs::Turns::span_from))]
+#[tactic(auto, unfolding(crate::specs::ListSteps::span_from))]
 pub(crate) fn list_cut<'f>(section: &'f [u8], order: Order, offset: u64) -> Cut<'f>
     ensures { result ≡ span_from section.entry.now order offset }
 {
@@ -50,7 +51,8 @@ pub(crate) fn read_list<'f, E: Listed<'f>>(
     start: u64,
 ) -> Result<Vec<E>, UnitRefusal>
     requires { IsAddressSize unit.now.header.now.address_size }
-    ensures { Answers (λ list. map E.seen list.items) result (list_at (E.entry_at (context_view unit.now)) start cut.entry) }
+    ensures { Answers (λ list. map E.view list.items)
+        result (list_at (E.entry_at (context_view unit.now)) start cut.entry) }
 {
     let end = cut.end();
     let mut base = start;
@@ -69,10 +71,7 @@ pub(crate) fn read_list<'f, E: Listed<'f>>(
         }
         base = turn.base;
     }
-    Err(UnitRefusal::Refused(Fault {
-        code: Code::ListUnended,
-        place: end,
-    }))
+    Err(UnitRefusal::Refused(Fault::at(Code::ListUnended, end)))
 }
 
 fn add<T: Copy>(list: &mut Vec<T>, listed: Option<T>) -> Result<(), AllocError>

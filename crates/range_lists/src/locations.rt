@@ -3,16 +3,16 @@ ghost use Rattle.std.specs.Prelude.{map, option_map};
 ghost use Rattle.dw_fields.specs.Reading.{IsAddressSize, Reads};
 ghost use Rattle.elf_sections.specs.Shapes.{sections_view};
 ghost use Rattle.unit_headers.specs.Refusals.{Answers};
-ghost use Rattle.range_lists.specs.Turns.{turn_view};
+ghost use Rattle.range_lists.specs.ListSteps.{step_view};
 ghost use Rattle.range_lists.specs.Locations.{LocationView, location_view, locations_of, location_entry_at, located, expression_at};
 
 use crate::bounds::Range;
 use crate::context::UnitContext;
 use crate::kinds::read_location_kind;
+use crate::list_step::ListStep;
 use crate::lists::{Listed, list_cut, read_list};
-use crate::operands::{Operands, number, read_operands};
-use crate::turns::Turn;
-use dw_fields::{Code, Cut, Fault, renamed};
+use crate::operands::{Operands, in_list, number, read_operands};
+use dw_fields::{Code, Cut, Fault};
 use elf_sections::Sections;
 use form_values::UnitFacts;
 use std::alloc::Global;
@@ -22,7 +22,9 @@ use unit_headers::{UnitHeader, UnitRefusal};
 /// location, which holds wherever no other one does.
 #[derive(Clone, Copy, Debug)]
 pub struct Location<'f> {
+    /// The addresses that the location holds for.
     pub range: Option<Range>,
+    /// The location expression (DWARF 5 section 2.5).
     pub expression: &'f [u8],
 }
 
@@ -41,13 +43,12 @@ pub fn read_locations<'f>(
     offset: u64,
 ) -> Result<Vec<Location<'f>>, UnitRefusal>
     requires { IsAddressSize header.now.address_size }
-    ensures { Answers (λ locations. map location_view locations.items) result (locations_of (sections_view sections.entry.now) header.now.address_size facts.now offset) }
+    ensures { Answers (λ locations. map location_view locations.items)
+        result (locations_of (sections_view sections.entry.now)
+        header.now.address_size facts.now offset) }
 {
     let Some(section) = sections.location_lists else {
-        return Err(UnitRefusal::Refused(Fault {
-            code: Code::NoSection,
-            place: 0,
-        }));
+        return Err(UnitRefusal::Refused(Fault::at(Code::NoSection, 0)));
     };
     let unit = UnitContext {
         sections,
@@ -59,9 +60,9 @@ pub fn read_locations<'f>(
 }
 
 impl<'f> Listed<'f> for Location<'f> {
-    ghost Seen = { LocationView };
+    ghost View = { LocationView };
 
-    ghost seen = { location_view };
+    ghost view = { location_view };
 
     ghost entry_at = { location_entry_at };
 
@@ -70,29 +71,30 @@ impl<'f> Listed<'f> for Location<'f> {
         cut: &mut Cut<'f>,
         unit: &UnitContext<'_, '_>,
         base: u64,
-    ) -> Result<Option<Turn<Location<'f>>>, Fault> {
+    ) -> Result<Option<ListStep<Location<'f>>>, Fault> {
         let place = cut.place();
         let kind = read_location_kind(cut)?;
         let operands = read_operands(cut, unit, base, kind, place)?;
-        turn_of(cut, base, operands)
+        step_of(cut, base, operands)
     }
 }
 
 /// Behind the operands stands the expression, where the entry lists a location.
 #[tactic(auto, unfolding(crate::specs::Locations::located))]
-fn turn_of<'f>(
+fn step_of<'f>(
     cut: &mut Cut<'f>,
     base: u64,
     operands: Operands,
-) -> Result<Option<Turn<Location<'f>>>, Fault>
-    ensures { Reads (option_map (turn_view location_view)) result (located base operands) cut.old cut.new }
+) -> Result<Option<ListStep<Location<'f>>>, Fault>
+    ensures { Reads (option_map (step_view location_view)) result (located base operands)
+        cut.old cut.new }
 {
     match operands {
         Operands::End => Ok(None),
-        Operands::Base(base) => Ok(Some(Turn { base, listed: None })),
+        Operands::Base(base) => Ok(Some(ListStep { base, listed: None })),
         Operands::Bounds(range) => {
             let expression = expression(cut)?;
-            Ok(Some(Turn {
+            Ok(Some(ListStep {
                 base,
                 listed: Some(Location { range, expression }),
             }))
@@ -106,5 +108,5 @@ fn expression<'f>(cut: &mut Cut<'f>) -> Result<&'f [u8], Fault>
     ensures { Reads (λ b. b.now) result expression_at cut.old cut.new }
 {
     let count = number(cut)?;
-    renamed(cut.bytes(count), Code::Truncated, Code::ListTruncated)
+    in_list(cut.bytes(count))
 }

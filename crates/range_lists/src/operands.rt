@@ -1,14 +1,14 @@
 //! The operands of an entry, by its kind.
-ghost use Rattle.std.specs.Prelude.{◌≡◌};
-ghost use Rattle.dw_fields.specs.Reading.{IsAddressSize, Reads};
+ghost use Rattle.std.specs.Prelude.{◌≡◌, ◌+◌};
+ghost use Rattle.dw_fields.specs.Reading.{IsAddressSize, Reads, wrapped_address};
 ghost use Rattle.range_lists.specs.Context.{context_view};
-ghost use Rattle.range_lists.specs.Operands.{operands_at, startx_endx_at, startx_length_at, offset_pair_at, start_end_at, start_length_at, index_at, number_operand_at, address_operand_at};
+ghost use Rattle.range_lists.specs.Operands.{operands_at, startx_endx_at, startx_length_at, offset_pair_at, start_end_at, start_length_at, in_list, index_at, number_operand_at, address_operand_at};
 
-use crate::bounds::{Range, sum};
+use crate::bounds::Range;
 use crate::context::UnitContext;
 use crate::kinds::Kind;
-use dw_fields::{Code, Cut, Fault, renamed};
-use form_values::{Raw, resolve_address};
+use dw_fields::{Code, Cut, Fault, renamed, wrap_address};
+use form_values::{Raw, refused_at, resolve_address};
 
 /// What the operands of an entry say.
 #[derive(Clone, Copy, Debug)]
@@ -31,7 +31,8 @@ pub(crate) fn read_operands(
     place: u64,
 ) -> Result<Operands, Fault>
     requires { IsAddressSize unit.now.header.now.address_size }
-    ensures { Reads (λ o. o) result (operands_at (context_view unit.now) base kind place) cut.old cut.new }
+    ensures { Reads (λ o. o) result (operands_at (context_view unit.now) base kind place)
+        cut.old cut.new }
 {
     match kind {
         Kind::EndOfList => Ok(Operands::End),
@@ -65,7 +66,8 @@ fn startx_endx(cut: &mut Cut, unit: &UnitContext<'_, '_>, place: u64) -> Result<
 #[tactic(auto, unfolding(crate::specs::Operands::startx_length_at))]
 fn startx_length(cut: &mut Cut, unit: &UnitContext<'_, '_>, place: u64) -> Result<Operands, Fault>
     requires { IsAddressSize unit.now.header.now.address_size }
-    ensures { Reads (λ o. o) result (startx_length_at (context_view unit.now) place) cut.old cut.new }
+    ensures { Reads (λ o. o) result (startx_length_at (context_view unit.now) place)
+        cut.old cut.new }
 {
     let low = index(cut, unit, place)?;
     let length = number(cut)?;
@@ -116,15 +118,29 @@ fn index(cut: &mut Cut, unit: &UnitContext<'_, '_>, place: u64) -> Result<u64, F
     ensures { Reads (λ x. x) result (index_at (context_view unit.now) place) cut.old cut.new }
 {
     let index = number(cut)?;
-    match resolve_address(
-        &Raw::AddressIndex(index),
-        unit.header,
-        unit.sections,
-        unit.bases,
-    ) {
-        Ok(address) => Ok(address),
-        Err(code) => Err(Fault { code, place }),
-    }
+    let raw = Raw::AddressIndex(index);
+    refused_at(
+        resolve_address(&raw, unit.header, unit.sections, unit.bases),
+        place,
+    )
+}
+
+/// An operand that passes the section's end is refused as `ListTruncated`, any other with its own
+/// cause.
+#[inline]
+pub(crate) fn in_list<T>(read: Result<T, Fault>) -> Result<T, Fault>
+    ensures { result ≡ in_list read }
+{
+    renamed(read, Code::Truncated, Code::ListTruncated)
+}
+
+/// The sum of an address and a number, at the unit's address size.
+#[inline]
+fn sum(address: u64, number: u64, size: u8) -> u64
+    requires { IsAddressSize size }
+    ensures { result ≡ wrapped_address size (address + number) }
+{
+    wrap_address(u128::from(address) + u128::from(number), size)
 }
 
 /// A number.
@@ -132,7 +148,7 @@ fn index(cut: &mut Cut, unit: &UnitContext<'_, '_>, place: u64) -> Result<u64, F
 pub(crate) fn number(cut: &mut Cut) -> Result<u64, Fault>
     ensures { Reads (λ x. x) result number_operand_at cut.old cut.new }
 {
-    renamed(cut.uleb(), Code::Truncated, Code::ListTruncated)
+    in_list(cut.uleb())
 }
 
 /// An address.
@@ -141,9 +157,5 @@ fn address(cut: &mut Cut, unit: &UnitContext<'_, '_>) -> Result<u64, Fault>
     requires { IsAddressSize unit.now.header.now.address_size }
     ensures { Reads (λ x. x) result (address_operand_at (context_view unit.now)) cut.old cut.new }
 {
-    renamed(
-        cut.address(unit.header.address_size),
-        Code::Truncated,
-        Code::ListTruncated,
-    )
+    in_list(cut.address(unit.header.address_size))
 }

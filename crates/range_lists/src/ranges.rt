@@ -4,15 +4,15 @@ ghost use Rattle.dw_fields.specs.Reading.{IsAddressSize};
 ghost use Rattle.elf_sections.specs.Shapes.{sections_view};
 ghost use Rattle.unit_headers.specs.Refusals.{Answers};
 ghost use Rattle.range_lists.specs.declared.bounds.Range.{Range};
-ghost use Rattle.range_lists.specs.Turns.{turn_view};
-ghost use Rattle.range_lists.specs.Ranges.{ranges_of, range_entry_at, turned};
+ghost use Rattle.range_lists.specs.ListSteps.{step_view};
+ghost use Rattle.range_lists.specs.Ranges.{ranges_of, range_entry_at, step_behind};
 
 use crate::bounds::Range;
 use crate::context::UnitContext;
 use crate::kinds::read_range_kind;
+use crate::list_step::ListStep;
 use crate::lists::{Listed, list_cut, read_list};
 use crate::operands::{Operands, read_operands};
-use crate::turns::Turn;
 use dw_fields::{Code, Cut, Fault};
 use elf_sections::Sections;
 use form_values::UnitFacts;
@@ -43,13 +43,11 @@ pub fn read_ranges(
     offset: u64,
 ) -> Result<Vec<Range>, UnitRefusal>
     requires { IsAddressSize header.now.address_size }
-    ensures { Answers (λ ranges. ranges.items) result (ranges_of (sections_view sections.now) header.now.address_size facts.now offset) }
+    ensures { Answers (λ ranges. ranges.items)
+        result (ranges_of (sections_view sections.now) header.now.address_size facts.now offset) }
 {
     let Some(section) = sections.range_lists else {
-        return Err(UnitRefusal::Refused(Fault {
-            code: Code::NoSection,
-            place: 0,
-        }));
+        return Err(UnitRefusal::Refused(Fault::at(Code::NoSection, 0)));
     };
     let unit = UnitContext {
         sections,
@@ -61,9 +59,9 @@ pub fn read_ranges(
 }
 
 impl<'f> Listed<'f> for Range {
-    ghost Seen = { Range };
+    ghost View = { Range };
 
-    ghost seen = { λ r. r };
+    ghost view = { λ r. r };
 
     ghost entry_at = { range_entry_at };
 
@@ -72,20 +70,20 @@ impl<'f> Listed<'f> for Range {
         cut: &mut Cut<'f>,
         unit: &UnitContext<'_, '_>,
         base: u64,
-    ) -> Result<Option<Turn<Range>>, Fault> {
+    ) -> Result<Option<ListStep<Range>>, Fault> {
         let place = cut.place();
         let kind = read_range_kind(cut)?;
         let operands = read_operands(cut, unit, base, kind, place)?;
-        Ok(turn_of(base, operands))
+        Ok(step_of(base, operands))
     }
 }
 
-fn turn_of(base: u64, operands: Operands) -> Option<Turn<Range>>
-    ensures { option_map (turn_view (λ r. r)) result ≡ turned base operands }
+fn step_of(base: u64, operands: Operands) -> Option<ListStep<Range>>
+    ensures { option_map (step_view (λ r. r)) result ≡ step_behind base operands }
 {
     match operands {
         Operands::End => None,
-        Operands::Base(base) => Some(Turn { base, listed: None }),
-        Operands::Bounds(listed) => Some(Turn { base, listed }),
+        Operands::Base(base) => Some(ListStep { base, listed: None }),
+        Operands::Bounds(listed) => Some(ListStep { base, listed }),
     }
 }

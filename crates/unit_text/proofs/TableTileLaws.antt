@@ -1,5 +1,5 @@
 -- The text of all abbreviation tables, walking from one declaration to the next, is that of tables that tile the section.
-use Rattle.std.proofs.Common.{◌≡◌, ℕ, zero, suc, ◌+◌, ◌-◌, ◌<◌, ◌≤◌, nat_lt, ltb-true, ltb-false, Bool, true, false, cond, refl, sym, ap, subst, ◌∙◌, List, [], ◌∷◌, ◌++◌, length, append_assoc, append-nil, Option, Some, None, Result, Ok, Err, arith}
+use Rattle.std.proofs.Common.{◌≡◌, ℕ, zero, suc, ◌+◌, ◌-◌, ◌<◌, ◌≤◌, nat_lt, ltb-true, ltb-false, Bool, true, false, cond, refl, sym, ap, subst, ◌∙◌, List, [], ◌∷◌, ◌++◌, length, append-nil, Option, Some, None, Result, Ok, Err, arith}
 use Rattle.std.specs.List.{flat_map}
 use Rattle.dw_fields.specs.declared.fault_code.Fault.{Fault}
 use Rattle.dw_fields.specs.declared.fault_code.Code.TheVariants.{DeclTruncated}
@@ -12,7 +12,7 @@ use Rattle.abbrev_decl.specs.Declarations.{declaration_at}
 use Rattle.abbrev_decl.proofs.WalkLaws.{declaration_end, declaration_forward, declaration_inside}
 use Rattle.unit_text.specs.Declarations.{declaration_text}
 use Rattle.unit_text.specs.Tables.{after, headed_table, table_from, table_from_start, table_line, table_on, tables_from, tables_on, tables_text, zero_end}
-use Rattle.unit_text.specs.TableTiles.{BeginsAt, DeclarationsStand, Table, TablesEnd, TablesStand, TablesTile, text_of_table}
+use Rattle.unit_text.specs.TableTiles.{BeginsAt, DeclarationsStand, AbbrevTable, TablesEnd, TablesStand, TablesTile, text_of_table}
 use Rattle.unit_text.proofs.TableLaws.{table_fault, table_next, table_zero, tables_end, tables_next, zero_is_read}
 
 abbrev told : List ℕ → Option Fault → List ℕ × Option Fault
@@ -87,7 +87,7 @@ tables_on_tile : (section : List ℕ) (place : ℕ) (t : List ℕ × Result ℕ 
     → ((next : ℕ) → place < next → next ≤ length section → TablesTile section next (rest next).0 (rest next).1)
     → TablesTile section place (tables_on (after (table_line place) t) rest).0 (tables_on (after (table_line place) t) rest).1
 tables_on_tile section place (text, Err f) rest within tile later =
-    let table : Table = record { place = place; declarations = tile.declarations; last = tile.last } in
+    let table : AbbrevTable = record { place = place; declarations = tile.declarations; last = tile.last } in
     record {
       tables = [];
       end = place;
@@ -97,7 +97,7 @@ tables_on_tile section place (text, Err f) rest within tile later =
       texts = ap (λ (x : List ℕ). table_line place ++ x) tile.texts ∙ sym (append-nil (text_of_table table));
     }
 tables_on_tile section place (text, Ok next) rest within tile later =
-    let table : Table = record { place = place; declarations = tile.declarations; last = tile.last } in
+    let table : AbbrevTable = record { place = place; declarations = tile.declarations; last = tile.last } in
     let past = zero_past section tile.last tile.ends.0 in
     let on : place ≤ tile.last = stand_on section place tile.declarations tile.last tile.stand in
     let behind : next ≡ zero_end section tile.last = tile.ends.1 in
@@ -172,25 +172,25 @@ table_breaks (declaration ∷ others) section most place last f enough stand e =
     table_next section most place declaration stand.0 (omega arith) stand.1
     ∙ ap (after (declaration_text declaration)) (table_breaks others section (most - 1) stand.0 last f (omega arith) stand.2 e)
 
-headed_ends : (section : List ℕ) (place : ℕ) (table : Table) → BeginsAt section place table → declaration_at section table.last ≡ Ok None
+headed_ends : (section : List ℕ) (place : ℕ) (table : AbbrevTable) → BeginsAt section place table → declaration_at section table.last ≡ Ok None
     → headed_table section place ≡ (text_of_table table, Ok (zero_end section table.last))
 unfolding headed_table table_from_start
 headed_ends section place table at none =
     ap (after (table_line place)) (table_ends table.declarations section (length section + 1) place table.last (omega arith) at.stand none)
     ∙ ap (λ (p : ℕ). read (table_line p ++ flat_map declaration_text table.declarations) (Ok (zero_end section table.last))) (sym at.begins)
 
-headed_breaks : (section : List ℕ) (place : ℕ) (table : Table) (f : Fault) → BeginsAt section place table → declaration_at section table.last ≡ Err f
+headed_breaks : (section : List ℕ) (place : ℕ) (table : AbbrevTable) (f : Fault) → BeginsAt section place table → declaration_at section table.last ≡ Err f
     → headed_table section place ≡ (text_of_table table, Err f)
 unfolding headed_table table_from_start
 headed_breaks section place table f at e =
     ap (after (table_line place)) (table_breaks table.declarations section (length section + 1) place table.last f (omega arith) at.stand e)
     ∙ ap (λ (p : ℕ). read (table_line p ++ flat_map declaration_text table.declarations) (Err f)) (sym at.begins)
 
-last_tile : (section : List ℕ) (most place end : ℕ) (unended : List Table) (stop : Option Fault) → length section < place + most → place ≡ end → TablesEnd section end unended stop
+last_tile : (section : List ℕ) (most place end : ℕ) (unended : List AbbrevTable) (stop : Option Fault) → length section < place + most → place ≡ end → TablesEnd section end unended stop
     → tables_from most section place ≡ (flat_map text_of_table unended, stop)
 last_tile section most place end unended None enough same ends =
     let at : end ≡ length section = ends.0 in
-    tables_end section most place (omega arith) (omega arith) ∙ ap (λ (us : List Table). told (flat_map text_of_table us) None) (sym ends.1)
+    tables_end section most place (omega arith) (omega arith) ∙ ap (λ (us : List AbbrevTable). told (flat_map text_of_table us) None) (sym ends.1)
 last_tile section most place end unended (Some f) enough same ends =
     let inside : place < length section = omega (arith, ends.0) in
     let at : BeginsAt section place ends.1 = subst (λ (p : ℕ). BeginsAt section p ends.1) (sym same) ends.3 in
@@ -198,9 +198,9 @@ last_tile section most place end unended (Some f) enough same ends =
     tables_next section most place (omega arith) inside
     ∙ ap (λ (t : List ℕ × Result ℕ Fault). tables_on t rest) (headed_breaks section place ends.1 f at ends.4)
     ∙ ap (λ (x : List ℕ). told x (Some f)) (sym (append-nil (text_of_table ends.1)))
-    ∙ ap (λ (us : List Table). told (flat_map text_of_table us) (Some f)) (sym ends.2)
+    ∙ ap (λ (us : List AbbrevTable). told (flat_map text_of_table us) (Some f)) (sym ends.2)
 
-tiles_only : (tables : List Table) (section : List ℕ) (most place end : ℕ) (unended : List Table) (stop : Option Fault)
+tiles_only : (tables : List AbbrevTable) (section : List ℕ) (most place end : ℕ) (unended : List AbbrevTable) (stop : Option Fault)
     → length section < place + most → TablesStand section place tables end → TablesEnd section end unended stop
     → tables_from most section place ≡ (flat_map text_of_table (tables ++ unended), stop)
 tiles_only [] section most place end unended stop enough stand ends = last_tile section most place end unended stop enough stand ends

@@ -1,5 +1,5 @@
 pub mod Pieces
-pub mod Loops
+pub mod UnitView
 pub mod UnitLine
 pub mod SectionLine
 pub mod Declarations

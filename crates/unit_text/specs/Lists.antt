@@ -1,33 +1,21 @@
 -- The range lists and location lists of a unit's entries, as our text format has them.
-use Rattle.std.specs.Prelude.{ℕ, ◌==◌, ◌&&◌, ◌||◌, Bool, true, false, List, [], ◌∷◌, ◌++◌, length, codes, Option, Some, None, Result, Ok, Err, if◌then◌else◌}
-use Rattle.dw_fields.specs.declared.fault_code.Code.{Code}
+use Rattle.std.specs.Prelude.{ℕ, ◌==◌, ◌&&◌, ◌||◌, Bool, true, false, List, [], ◌∷◌, ◌++◌, length, codes, Option, Some, None, Result, Ok, if◌then◌else◌}
 use Rattle.dw_fields.specs.declared.fault_code.Fault.{Fault}
-use Rattle.dw_fields.specs.Codes.{fault}
 use Rattle.dw_fields.specs.Reading.{◌>>=◌}
 use Rattle.dw_names.specs.Texts.{attribute_text}
+use Rattle.dw_numbers.specs.declared.attribute.TheConstants.{LOCATION, STRING_LENGTH, RETURN_ADDR, DATA_MEMBER_LOCATION, FRAME_BASE}
+use Rattle.dw_numbers.specs.declared.attribute.TheConstants.{SEGMENT, STATIC_LINK, USE_LOCATION, VTABLE_ELEM_LOCATION, RANGES}
 use Rattle.dw_text.specs.Added.{labelled}
 use Rattle.dw_text.specs.Bytes.{hex_bytes}
 use Rattle.dw_text.specs.Numbers.{decimal, hex}
-use Rattle.elf_sections.specs.Shapes.{SectionsView, sections_view}
 use Rattle.entry_tree.specs.Views.{AttrView, EntryView}
 use Rattle.form_values.specs.View.{RawView, Offset, RangeIndex, LocationIndex}
-use Rattle.form_values.specs.Resolved.{list_of}
-use Rattle.form_values.specs.declared.raw.UnitFacts.{UnitFacts}
+use Rattle.form_values.specs.Resolved.{list_of, refused_at}
 use Rattle.range_lists.specs.declared.bounds.Range.{Range}
 use Rattle.range_lists.specs.Locations.{LocationView, locations_of}
 use Rattle.range_lists.specs.Ranges.{ranges_of}
-use Rattle.unit_headers.specs.declared.header.UnitHeader.{UnitHeader}
-use Rattle.unit_text.specs.declared.lists.Unit.{Unit as UnitParts}
 use Rattle.unit_text.specs.Pieces.{Text, joined, texts_of}
-
--- a unit's header and facts, and the sections that they are of
-pub record UnitView : Type 0 where
-  pub sections : SectionsView
-  pub header : UnitHeader
-  pub facts : UnitFacts
-
-abbrev pub unit_view : UnitParts → UnitView
-unit_view u = record { sections = sections_view u.sections.now; header = u.header.now; facts = u.facts.now }
+use Rattle.unit_text.specs.UnitView.{UnitView}
 
 -- DW_AT_ranges gives a range list where its value is an offset or an index of a range list.
 abbrev pub is_range_list : RawView → Bool
@@ -40,18 +28,14 @@ is_location_list (Offset n) = true
 is_location_list (LocationIndex n) = true
 is_location_list _ = false
 
--- The attributes whose value may be a location list (DWARF 5 section 7.5.4): location, string_length,
--- return_addr, data_member_location, frame_base, segment, static_link, use_location, vtable_elem_location.
+-- the attributes whose value may be a location list (DWARF 5 section 7.5.4)
 unfoldable pub is_location_attribute : ℕ → Bool
 is_location_attribute name =
-    (name == 0x02) || (name == 0x19) || (name == 0x2a) || (name == 0x38) || (name == 0x40)
-    || (name == 0x46) || (name == 0x48) || (name == 0x4a) || (name == 0x4d)
+    (name == LOCATION) || (name == STRING_LENGTH) || (name == RETURN_ADDR)
+    || (name == DATA_MEMBER_LOCATION) || (name == FRAME_BASE) || (name == SEGMENT)
+    || (name == STATIC_LINK) || (name == USE_LOCATION) || (name == VTABLE_ELEM_LOCATION)
 
 -- the place of the list that an attribute stands for, or the refusal, which counts at the attribute
-abbrev pub refused_at : ℕ → Result ℕ Code → Result ℕ Fault
-refused_at place (Ok n) = Ok n
-refused_at place (Err cause) = Err (fault cause place)
-
 unfoldable pub list_place : UnitView → AttrView → Result ℕ Fault
 list_place u a = refused_at a.place (list_of a.raw u.header.wide u.sections u.facts.bases)
 
@@ -69,7 +53,9 @@ bounds_text (Some r) = range_text r
 -- how many bytes, and their digits where there are any
 unfoldable pub expression_text : List ℕ → List ℕ
 expression_text [] = codes " 0"
-expression_text (b ∷ bytes) = labelled (codes " ") (decimal (length (b ∷ bytes))) ++ labelled (codes " ") (hex_bytes (b ∷ bytes))
+expression_text (b ∷ bytes) =
+    labelled (codes " ") (decimal (length (b ∷ bytes)))
+    ++ labelled (codes " ") (hex_bytes (b ∷ bytes))
 
 unfoldable pub location_line : LocationView → Text
 location_line l = Ok (bounds_text l.range ++ expression_text l.expression ++ 10 ∷ [])
@@ -79,13 +65,15 @@ ranges_title place = labelled (codes "ranges of 0x") (hex place) ++ 10 ∷ []
 
 unfoldable pub locations_title : ℕ → ℕ → List ℕ
 locations_title place name =
-    labelled (codes "locations of 0x") (hex place) ++ labelled (codes " ") (attribute_text name) ++ 10 ∷ []
+    labelled (codes "locations of 0x") (hex place) ++ labelled (codes " ") (attribute_text name)
+    ++ 10 ∷ []
 
 unfoldable pub range_list_text : ℕ → List Range → Text
 range_list_text place ranges = joined (Ok (ranges_title place)) (texts_of range_line ranges)
 
 unfoldable pub location_list_text : ℕ → ℕ → List LocationView → Text
-location_list_text place name locations = joined (Ok (locations_title place name)) (texts_of location_line locations)
+location_list_text place name locations =
+    joined (Ok (locations_title place name)) (texts_of location_line locations)
 
 -- the range list of an attribute of the entry at `place`
 unfoldable pub ranges_text : UnitView → ℕ → AttrView → Text
@@ -104,8 +92,9 @@ locations_text u place a = do
 -- the list of an attribute, if it has one
 unfoldable pub attr_lists : UnitView → ℕ → AttrView → Text
 attr_lists u place a =
-    if (a.name == 0x55) && is_range_list a.raw then ranges_text u place a else (
-    if is_location_attribute a.name && is_location_list a.raw then locations_text u place a else Ok [])
+    if (a.name == RANGES) && is_range_list a.raw then ranges_text u place a else (
+    if is_location_attribute a.name && is_location_list a.raw then locations_text u place a
+    else Ok [])
 
 -- the lists of an entry, in the order of its attributes
 unfoldable pub entry_lists : UnitView → EntryView → Text

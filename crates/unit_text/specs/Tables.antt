@@ -21,7 +21,8 @@ zero_end section place = elim (uleb_at (from section place)) [ Ok code ↦ code.
 
 -- What stands at a place of a table, and then the rest of the table: a declaration, the code 0 that ends the table, or a
 -- fault. The text comes with the place behind the table, or with the fault.
-abbrev pub table_on : Result (Option (DeclView × ℕ)) Fault → ℕ → (ℕ → List ℕ × Result ℕ Fault) → List ℕ × Result ℕ Fault
+abbrev pub table_on : Result (Option (DeclView × ℕ)) Fault → ℕ → (ℕ → List ℕ × Result ℕ Fault)
+    → List ℕ × Result ℕ Fault
 table_on (Err f) end rest = ([], Err f)
 table_on (Ok None) end rest = ([], Ok end)
 table_on (Ok (Some (declaration, next))) end rest = after (declaration_text declaration) (rest next)
@@ -29,7 +30,9 @@ table_on (Ok (Some (declaration, next))) end rest = after (declaration_text decl
 -- at most `most` declarations from a place on
 abbrev pub table_from : ℕ → List ℕ → ℕ → List ℕ × Result ℕ Fault
 table_from zero section place = ([], Err (fault DeclTruncated place))
-table_from (suc most) section place = table_on (declaration_at section place) (zero_end section place) (λ next. table_from most section next)
+table_from (suc most) section place =
+    table_on (declaration_at section place) (zero_end section place)
+    (λ next. table_from most section next)
 
 -- the declarations of the table at a place; a section has fewer of them than bytes
 unfoldable pub table_from_start : List ℕ → ℕ → List ℕ × Result ℕ Fault
@@ -52,7 +55,9 @@ tables_on (text, Ok next) rest = after text (rest next)
 abbrev pub tables_from : ℕ → List ℕ → ℕ → List ℕ × Option Fault
 tables_from zero section table = ([], None)
 tables_from (suc most) section table =
-    if nat_lt table (length section) then tables_on (headed_table section table) (λ next. tables_from most section next) else ([], None)
+    if nat_lt table (length section)
+    then tables_on (headed_table section table) (λ next. tables_from most section next)
+    else ([], None)
 
 -- all tables of a section; it has fewer of them than bytes
 unfoldable pub tables_text : List ℕ → List ℕ × Option Fault

@@ -25,7 +25,9 @@ format_text wide = if wide then codes "64" else codes "32"
 unfoldable pub extra_text : Extra → List ℕ
 extra_text Nothing = []
 extra_text (Id id) = labelled (codes " id 0x") (sixteen id)
-extra_text (Signature signature type_offset) = labelled (codes " signature 0x") (sixteen signature) ++ labelled (codes " type 0x") (hex type_offset)
+extra_text (Signature signature type_offset) =
+    labelled (codes " signature 0x") (sixteen signature)
+    ++ labelled (codes " type 0x") (hex type_offset)
 
 -- where the unit is and of what kind
 unfoldable pub unit_start : UnitHeader → List ℕ

@@ -4,22 +4,24 @@ use Rattle.std.specs.Prelude.{ℕ, List, [], ◌∷◌, ◌++◌, Ok, codes}
 use Rattle.dw_text.specs.Added.{labelled}
 use Rattle.dw_text.specs.Numbers.{decimal, hex}
 use Rattle.dw_names.specs.Texts.{tag_text, attribute_text}
-use Rattle.unit_headers.specs.declared.header.UnitHeader.{UnitHeader}
-use Rattle.elf_sections.specs.Shapes.{SectionsView}
-use Rattle.form_values.specs.declared.raw.Bases.{Bases}
 use Rattle.entry_tree.specs.Views.{AttrView, EntryView}
 use Rattle.unit_text.specs.Pieces.{Text, joined, texts_of}
+use Rattle.unit_text.specs.UnitView.{UnitView}
 use Rattle.unit_text.specs.UnitLine.{unit_line}
 use Rattle.unit_text.specs.Values.{value_text}
 
 -- the entry's place, depth and tag
 unfoldable pub entry_line : EntryView → List ℕ
-entry_line entry = labelled (codes "[0x") (hex entry.place) ++ labelled (codes "] ") (decimal entry.depth) ++ labelled (codes " ") (tag_text entry.tag) ++ (10 ∷ [])
+entry_line entry =
+    labelled (codes "[0x") (hex entry.place) ++ labelled (codes "] ") (decimal entry.depth)
+    ++ labelled (codes " ") (tag_text entry.tag) ++ (10 ∷ [])
 
-module _ (header : UnitHeader) (sections : SectionsView) (bases : Bases) where
+module _ (u : UnitView) where
   -- the attribute's name and its value
   unfoldable pub attr_text : AttrView → Text
-  attr_text attr = joined (Ok (labelled (codes "  ") (attribute_text attr.name))) (joined (value_text header sections bases attr.place attr.raw) (Ok (10 ∷ [])))
+  attr_text attr =
+      joined (Ok (labelled (codes "  ") (attribute_text attr.name)))
+      (joined (value_text u attr.place attr.raw) (Ok (10 ∷ [])))
 
   unfoldable pub attrs_text : List AttrView → Text
   attrs_text attrs = texts_of attr_text attrs
@@ -31,4 +33,4 @@ module _ (header : UnitHeader) (sections : SectionsView) (bases : Bases) where
   entries_text entries = texts_of entry_text entries
 
   unfoldable pub read_unit_text : List EntryView → Text
-  read_unit_text entries = joined (Ok (unit_line header)) (entries_text entries)
+  read_unit_text entries = joined (Ok (unit_line u.header)) (entries_text entries)

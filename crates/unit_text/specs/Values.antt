@@ -6,12 +6,10 @@ use Rattle.dw_text.specs.Added.{labelled}
 use Rattle.dw_text.specs.Numbers.{decimal, hex, signed, sixteen}
 use Rattle.dw_text.specs.Escapes.{escaped}
 use Rattle.dw_text.specs.Bytes.{hex_bytes}
-use Rattle.unit_headers.specs.declared.header.UnitHeader.{UnitHeader}
-use Rattle.elf_sections.specs.Shapes.{SectionsView}
-use Rattle.form_values.specs.declared.raw.Bases.{Bases}
 use Rattle.form_values.specs.View.{RawView, Address, AddressIndex, Block, Expression, Unsigned, Signed, Wide, Flag, TextOffset, LineTextOffset, TextIndex, Local, Global, Signature, Offset, RangeIndex, LocationIndex, Supplement}
 use Rattle.form_values.specs.View as raw
 use Rattle.form_values.specs.Resolved.{text_of, address_of, list_of}
+use Rattle.unit_text.specs.UnitView.{UnitView}
 use Rattle.unit_text.specs.Pieces.{Text}
 
 -- a value that was resolved, as a text; or its refusal at the attribute's place
@@ -25,7 +23,9 @@ quoted text = labelled (codes " text \"") (escaped text) ++ (codes "\"")
 
 -- bytes behind their number; without the blank between them where there are none
 unfoldable pub counted : List ℕ → List ℕ → List ℕ
-counted word bytes = labelled word (decimal (length bytes)) ++ (if length bytes == 0 then [] else labelled (codes " ") (hex_bytes bytes))
+counted word bytes =
+    labelled word (decimal (length bytes))
+    ++ (if length bytes == 0 then [] else labelled (codes " ") (hex_bytes bytes))
 
 unfoldable pub flag_text : Bool → List ℕ
 flag_text flag = if flag then codes " flag yes" else codes " flag no"
@@ -38,15 +38,16 @@ offset_text offset = labelled (codes " offset 0x") (hex offset)
 
 -- An address, a text or the place of a list, with what an index stands for by the unit's sections and bases. The widths
 -- are those of the unit's header.
-module _ (header : UnitHeader) (sections : SectionsView) (bases : Bases) (place : ℕ) where
+module _ (u : UnitView) (place : ℕ) where
   unfoldable pub address_value : RawView → Text
-  address_value raw = resolved address_text place (address_of raw header.address_size sections bases)
+  address_value raw =
+      resolved address_text place (address_of raw u.header.address_size u.sections u.facts.bases)
 
   unfoldable pub text_value : RawView → Text
-  text_value raw = resolved quoted place (text_of raw header.wide sections bases)
+  text_value raw = resolved quoted place (text_of raw u.header.wide u.sections u.facts.bases)
 
   unfoldable pub list_value : RawView → Text
-  list_value raw = resolved offset_text place (list_of raw header.wide sections bases)
+  list_value raw = resolved offset_text place (list_of raw u.header.wide u.sections u.facts.bases)
 
   -- the text of a value of each kind
   unfoldable pub value_text : RawView → Text

@@ -1,10 +1,12 @@
 //! The text of one abbreviation declaration (DWARF 5 section 7.5.3).
+
 ghost use Rattle.std.specs.Prelude.{◌≡◌};
 ghost use Rattle.dw_text.specs.Added.{Adds};
 ghost use Rattle.unit_text.specs.Declarations.{children_text, declaration_text, implicit_text, pair_text, pairs_text};
 
 use abbrev_decl::{AttrSpec, Attrs, Decl};
 use dw_names::{push_attribute_after, push_form_after, push_tag_after};
+use dw_numbers::form;
 use dw_text::{push_decimal_after, push_signed_after, push_text};
 use std::alloc::AllocError;
 
@@ -21,7 +23,7 @@ fn children_text(children: bool) -> &'static [u8]
 fn push_implicit(out: &mut Vec<u8>, pair: AttrSpec) -> Result<(), AllocError>
     ensures { Adds result out.old.items out.new.items (implicit_text pair) }
 {
-    if pair.form == 0x21 {
+    if pair.form == form::IMPLICIT_CONST {
         push_signed_after(out, b" ", pair.implicit)?;
     }
     Ok(())

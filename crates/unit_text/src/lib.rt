@@ -1,7 +1,9 @@
 //! The texts of units, sections, abbreviation tables and lists, appended to a list of bytes.
 //!
-//! Each call appends exactly its text. After any refusal the list is as it was; only the text of abbreviation tables stays
-//! up to the fault in them.
+//! [`write_section`] and [`write_unit_line`] write a line, [`write_unit`] a unit with its entries and
+//! attributes, [`write_lists`] the range lists and location lists of a unit, and [`write_tables`] all
+//! tables of `.debug_abbrev`. Each call appends exactly its text, which is a definition of `specs/`. After
+//! any refusal the list is as it was; only the text of abbreviation tables stays up to the fault in them.
 #![tactic(auto)]
 
 mod declaration_text;
@@ -10,6 +12,7 @@ mod lists;
 mod pieces;
 mod section_line;
 mod tables;
+mod unit;
 mod unit_line;
 mod units;
 mod values;

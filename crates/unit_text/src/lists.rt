@@ -1,4 +1,5 @@
 //! The range lists and location lists of a unit's entries.
+
 ghost use Rattle.std.specs.Prelude.{◌≡◌, ◌++◌, ◌∷◌, [], IsTrue, Ok, map};
 ghost use Rattle.dw_fields.specs.Reading.{IsAddressSize};
 ghost use Rattle.dw_text.specs.Added.{Adds};
@@ -7,29 +8,25 @@ ghost use Rattle.entry_tree.specs.Views.{attr_view, entry_view};
 ghost use Rattle.form_values.specs.View.{raw_view, is_list};
 ghost use Rattle.range_lists.specs.Locations.{location_view};
 ghost use Rattle.unit_text.specs.Pieces.{Puts, Writes, texts_of};
-ghost use Rattle.unit_text.specs.Lists.{UnitView, unit_view, is_range_list, is_location_list, is_location_attribute, list_place, range_text, range_line, range_list_text, location_list_text, bounds_text, expression_text, location_line, ranges_title, locations_title, ranges_text, locations_text, attr_lists, entry_lists, lists_text};
+ghost use Rattle.unit_text.specs.UnitView.{unit_of, unit_view};
+ghost use Rattle.unit_text.specs.Lists.{is_range_list, is_location_list, is_location_attribute, list_place, range_text, range_line, range_list_text, location_list_text, bounds_text, expression_text, location_line, ranges_title, locations_title, ranges_text, locations_text, attr_lists, entry_lists, lists_text};
 
-use crate::pieces::refused;
+use crate::pieces::{as_put, keep_whole};
+use crate::unit::Unit;
 use dw_fields::Fault;
 use dw_names::push_attribute_after;
+use dw_numbers::attribute;
 use dw_text::{push_decimal_after, push_hex_after, push_hex_bytes_after, push_text};
 use elf_sections::Sections;
 use entry_tree::{Attr, Entry};
-use form_values::{Raw, UnitFacts, resolve_list};
+use form_values::{Raw, UnitFacts, refused_at, resolve_list};
 use range_lists::{Location, Range, read_locations, read_ranges};
 use std::alloc::{AllocError, Global};
 use unit_headers::{UnitHeader, UnitRefusal};
 
-/// A unit's header and facts, and the sections that they are of.
-#[derive(Clone, Copy)]
-struct Unit<'a, 'f> {
-    sections: &'a Sections<'f>,
-    header: &'a UnitHeader,
-    facts: &'a UnitFacts,
-}
-
 /// Appends the lists of a unit's entries, in the order of the entries and of their attributes. The
-/// entries and the facts are those of this unit, whose address size is 2, 4 or 8.
+/// entries and the facts are those of this unit, whose address size is 2, 4 or 8 (DWARF 5 sections 2.6.2
+/// and 2.17.3).
 ///
 /// # Errors
 /// The first refusal of a list: at the attribute where its value can't be resolved, otherwise where the
@@ -44,7 +41,9 @@ pub fn write_lists(
     out: &mut Vec<u8>,
 ) -> Result<(), UnitRefusal>
     requires { IsAddressSize header.now.address_size }
-    ensures { Writes result out.old.items out.new.items (lists_text (record { sections = sections_view sections.now; header = header.now; facts = facts.now }) (map entry_view entries.now)) }
+    ensures { Writes result out.old.items out.new.items
+        (lists_text (unit_of (sections_view sections.now) header.now facts.now)
+        (map entry_view entries.now)) }
 {
     let unit = Unit {
         sections,
@@ -52,26 +51,22 @@ pub fn write_lists(
         facts,
     };
     let before = out.len();
-    match put_lists(alloc, &unit, entries, out) {
-        Ok(()) => Ok(()),
-        Err(refusal) => {
-            out.truncate(before);
-            Err(refusal)
-        }
-    }
+    let done = put_lists(out, alloc, &unit, entries);
+    keep_whole(out, before, done)
 }
 
 fn put_lists(
+    out: &mut Vec<u8>,
     alloc: Global,
     unit: &Unit<'_, '_>,
     entries: &[Entry<'_>],
-    out: &mut Vec<u8>,
 ) -> Result<(), UnitRefusal>
     requires { IsAddressSize unit.now.header.now.address_size }
-    ensures { Puts result out.old.items out.new.items (texts_of (entry_lists (unit_view unit.now)) (map entry_view entries.now)) }
+    ensures { Puts result out.old.items out.new.items
+        (texts_of (entry_lists (unit_view unit.now)) (map entry_view entries.now)) }
 {
     for entry in entries {
-        match put_entry_lists(alloc, unit, entry, out) {
+        match put_entry_lists(out, alloc, unit, entry) {
             Ok(()) => {}
             Err(refusal) => return Err(refusal),
         }
@@ -81,29 +76,31 @@ fn put_lists(
 
 #[tactic(auto, unfolding(crate::specs::Lists::entry_lists))]
 fn put_entry_lists(
+    out: &mut Vec<u8>,
     alloc: Global,
     unit: &Unit<'_, '_>,
     entry: &Entry<'_>,
-    out: &mut Vec<u8>,
 ) -> Result<(), UnitRefusal>
     requires { IsAddressSize unit.now.header.now.address_size }
-    ensures { Puts result out.old.items out.new.items (entry_lists (unit_view unit.now) (entry_view entry.now)) }
+    ensures { Puts result out.old.items out.new.items
+        (entry_lists (unit_view unit.now) (entry_view entry.now)) }
 {
-    put_attrs_lists(alloc, unit, entry.place, entry.attrs, out)
+    put_attrs_lists(out, alloc, unit, entry.place, entry.attrs)
 }
 
 fn put_attrs_lists(
+    out: &mut Vec<u8>,
     alloc: Global,
     unit: &Unit<'_, '_>,
     place: u64,
     attrs: &[Attr<'_>],
-    out: &mut Vec<u8>,
 ) -> Result<(), UnitRefusal>
     requires { IsAddressSize unit.now.header.now.address_size }
-    ensures { Puts result out.old.items out.new.items (texts_of (attr_lists (unit_view unit.now) place) (map attr_view attrs.now)) }
+    ensures { Puts result out.old.items out.new.items
+        (texts_of (attr_lists (unit_view unit.now) place) (map attr_view attrs.now)) }
 {
     for attr in attrs {
-        match put_list(alloc, unit, place, attr, out) {
+        match put_list(out, alloc, unit, place, attr) {
             Ok(()) => {}
             Err(refusal) => return Err(refusal),
         }
@@ -114,19 +111,20 @@ fn put_attrs_lists(
 /// Appends the list of an attribute, if it has one.
 #[tactic(auto, unfolding(crate::specs::Lists::attr_lists))]
 fn put_list(
+    out: &mut Vec<u8>,
     alloc: Global,
     unit: &Unit<'_, '_>,
     place: u64,
     attr: &Attr<'_>,
-    out: &mut Vec<u8>,
 ) -> Result<(), UnitRefusal>
     requires { IsAddressSize unit.now.header.now.address_size }
-    ensures { Puts result out.old.items out.new.items (attr_lists (unit_view unit.now) place (attr_view attr.now)) }
+    ensures { Puts result out.old.items out.new.items
+        (attr_lists (unit_view unit.now) place (attr_view attr.now)) }
 {
-    if attr.name == 0x55 && is_range_list(&attr.raw) {
-        put_ranges(alloc, unit, place, attr, out)
+    if attr.name == attribute::RANGES && is_range_list(&attr.raw) {
+        put_ranges(out, alloc, unit, place, attr)
     } else if is_location_attribute(attr.name) && is_location_list(&attr.raw) {
-        put_locations(alloc, unit, place, attr, out)
+        put_locations(out, alloc, unit, place, attr)
     } else {
         Ok(())
     }
@@ -151,7 +149,15 @@ fn is_location_attribute(name: u64) -> bool
 {
     matches!(
         name,
-        0x02 | 0x19 | 0x2a | 0x38 | 0x40 | 0x46 | 0x48 | 0x4a | 0x4d
+        attribute::LOCATION
+            | attribute::STRING_LENGTH
+            | attribute::RETURN_ADDR
+            | attribute::DATA_MEMBER_LOCATION
+            | attribute::FRAME_BASE
+            | attribute::SEGMENT
+            | attribute::STATIC_LINK
+            | attribute::USE_LOCATION
+            | attribute::VTABLE_ELEM_LOCATION
     )
 }
 
@@ -161,26 +167,24 @@ fn place_of_list(unit: &Unit<'_, '_>, attr: &Attr<'_>) -> Result<u64, Fault>
     requires { IsTrue (is_list (raw_view attr.now.raw)) }
     ensures { result ≡ list_place (unit_view unit.now) (attr_view attr.now) }
 {
-    match resolve_list(&attr.raw, unit.header, unit.sections, &unit.facts.bases) {
-        Ok(place) => Ok(place),
-        Err(code) => Err(Fault {
-            code,
-            place: attr.place,
-        }),
-    }
+    refused_at(
+        resolve_list(&attr.raw, unit.header, unit.sections, &unit.facts.bases),
+        attr.place,
+    )
 }
 
 #[tactic(auto, unfolding(crate::specs::Lists::ranges_text))]
 fn put_ranges(
+    out: &mut Vec<u8>,
     alloc: Global,
     unit: &Unit<'_, '_>,
     place: u64,
     attr: &Attr<'_>,
-    out: &mut Vec<u8>,
 ) -> Result<(), UnitRefusal>
     requires size { IsAddressSize unit.now.header.now.address_size }
     requires kind { IsTrue (is_range_list (raw_view attr.now.raw)) }
-    ensures { Puts result out.old.items out.new.items (ranges_text (unit_view unit.now) place (attr_view attr.now)) }
+    ensures { Puts result out.old.items out.new.items
+        (ranges_text (unit_view unit.now) place (attr_view attr.now)) }
 {
     let offset = match place_of_list(unit, attr) {
         Ok(offset) => offset,
@@ -197,8 +201,8 @@ fn put_ranges(
 fn put_range_list(out: &mut Vec<u8>, place: u64, ranges: &[Range]) -> Result<(), UnitRefusal>
     ensures { Puts result out.old.items out.new.items (range_list_text place ranges.now) }
 {
-    refused(push_ranges_title(out, place))?;
-    put_range_lines(ranges, out)?;
+    as_put(push_ranges_title(out, place))?;
+    put_range_lines(out, ranges)?;
     Ok(())
 }
 
@@ -211,7 +215,7 @@ fn push_ranges_title(out: &mut Vec<u8>, place: u64) -> Result<(), AllocError>
     Ok(())
 }
 
-fn put_range_lines(ranges: &[Range], out: &mut Vec<u8>) -> Result<(), UnitRefusal>
+fn put_range_lines(out: &mut Vec<u8>, ranges: &[Range]) -> Result<(), UnitRefusal>
     ensures { Puts result out.old.items out.new.items (texts_of range_line ranges.now) }
 {
     for range in ranges {
@@ -227,7 +231,7 @@ fn put_range_lines(ranges: &[Range], out: &mut Vec<u8>) -> Result<(), UnitRefusa
 fn put_range_line(out: &mut Vec<u8>, range: &Range) -> Result<(), UnitRefusal>
     ensures { Puts result out.old.items out.new.items (range_line range.now) }
 {
-    refused(push_range_line(out, range))
+    as_put(push_range_line(out, range))
 }
 
 fn push_range_line(out: &mut Vec<u8>, range: &Range) -> Result<(), AllocError>
@@ -250,15 +254,16 @@ fn push_range(out: &mut Vec<u8>, range: &Range) -> Result<(), AllocError>
 
 #[tactic(auto, unfolding(crate::specs::Lists::locations_text))]
 fn put_locations(
+    out: &mut Vec<u8>,
     alloc: Global,
     unit: &Unit<'_, '_>,
     place: u64,
     attr: &Attr<'_>,
-    out: &mut Vec<u8>,
 ) -> Result<(), UnitRefusal>
     requires size { IsAddressSize unit.now.header.now.address_size }
     requires kind { IsTrue (is_location_list (raw_view attr.now.raw)) }
-    ensures { Puts result out.old.items out.new.items (locations_text (unit_view unit.now) place (attr_view attr.now)) }
+    ensures { Puts result out.old.items out.new.items
+        (locations_text (unit_view unit.now) place (attr_view attr.now)) }
 {
     let offset = match place_of_list(unit, attr) {
         Ok(offset) => offset,
@@ -278,10 +283,11 @@ fn put_location_list(
     name: u64,
     locations: &[Location<'_>],
 ) -> Result<(), UnitRefusal>
-    ensures { Puts result out.old.items out.new.items (location_list_text place name (map location_view locations.now)) }
+    ensures { Puts result out.old.items out.new.items
+        (location_list_text place name (map location_view locations.now)) }
 {
-    refused(push_locations_title(out, place, name))?;
-    put_location_lines(locations, out)?;
+    as_put(push_locations_title(out, place, name))?;
+    put_location_lines(out, locations)?;
     Ok(())
 }
 
@@ -295,8 +301,9 @@ fn push_locations_title(out: &mut Vec<u8>, place: u64, name: u64) -> Result<(), 
     Ok(())
 }
 
-fn put_location_lines(locations: &[Location<'_>], out: &mut Vec<u8>) -> Result<(), UnitRefusal>
-    ensures { Puts result out.old.items out.new.items (texts_of location_line (map location_view locations.now)) }
+fn put_location_lines(out: &mut Vec<u8>, locations: &[Location<'_>]) -> Result<(), UnitRefusal>
+    ensures { Puts result out.old.items out.new.items
+        (texts_of location_line (map location_view locations.now)) }
 {
     for location in locations {
         match put_location_line(out, location) {
@@ -311,11 +318,12 @@ fn put_location_lines(locations: &[Location<'_>], out: &mut Vec<u8>) -> Result<(
 fn put_location_line(out: &mut Vec<u8>, location: &Location<'_>) -> Result<(), UnitRefusal>
     ensures { Puts result out.old.items out.new.items (location_line (location_view location.now)) }
 {
-    refused(push_location_line(out, location))
+    as_put(push_location_line(out, location))
 }
 
 fn push_location_line(out: &mut Vec<u8>, location: &Location<'_>) -> Result<(), AllocError>
-    ensures { Adds result out.old.items out.new.items (bounds_text location.now.range ++ expression_text location.now.expression.now ++ 10 ∷ []) }
+    ensures { Adds result out.old.items out.new.items
+        (bounds_text location.now.range ++ expression_text location.now.expression.now ++ 10 ∷ []) }
 {
     push_bounds(out, location.range)?;
     push_expression(out, location.expression)?;

@@ -1,9 +1,11 @@
 //! The line of a section of an ELF file (gABI chapter 4, "Sections").
+
 ghost use Rattle.std.specs.Prelude.{◌≡◌, ◌++◌, OnErr, OnOk};
 ghost use Rattle.dw_text.specs.Added.{Adds};
 ghost use Rattle.elf_sections.specs.Shapes.{row};
 ghost use Rattle.unit_text.specs.SectionLine.{section_line};
 
+use crate::pieces::keep_whole;
 use dw_text::{push_decimal_after, push_escaped_after, push_hex_after, push_text};
 use elf_sections::Section;
 use std::alloc::{AllocError, Global};
@@ -31,15 +33,11 @@ pub fn write_section(
     section: &Section<'_>,
     out: &mut Vec<u8>,
 ) -> Result<(), AllocError>
-    ensures ok { OnOk result (out.new.items ≡ out.old.items ++ section_line number (row section.now)) }
+    ensures ok { OnOk result (out.new.items
+        ≡ out.old.items ++ section_line number (row section.now)) }
     ensures err { OnErr result (out.new.items ≡ out.old.items) }
 {
     let before = out.len();
-    match push_section(out, number, section) {
-        Ok(()) => Ok(()),
-        Err(error) => {
-            out.truncate(before);
-            Err(error)
-        }
-    }
+    let done = push_section(out, number, section);
+    keep_whole(out, before, done)
 }

@@ -1,9 +1,11 @@
 //! The text of all abbreviation tables (DWARF 5 section 7.5.3).
+
 ghost use Rattle.std.specs.Prelude.{◌≡◌, ◌++◌, ◌<◌, ◌≤◌, Ok, None, length, IfOk, OnErr};
 ghost use Rattle.abbrev_decl.specs.Declarations.{declaration_at};
 ghost use Rattle.unit_text.specs.Tables.{AddsTo, TableEnds, headed_table, table_from_start, tables_text, zero_end};
 
 use crate::declaration_text::push_declaration;
+use crate::pieces::keep_whole;
 use abbrev_decl::{Steps, read_decl};
 use dw_fields::{Cut, Fault, Order};
 use dw_text::{push_hex_after, push_text};
@@ -25,7 +27,8 @@ fn behind_zero(section: &[u8], place: u64) -> u64
     }
 }
 
-/// Appends the declarations of the table at `table`, and answers the place behind its code 0, or the fault in it.
+/// Appends the declarations of the table at `table`, and answers the place behind its code 0, or the
+/// fault in it.
 fn push_table(
     out: &mut Vec<u8>,
     section: &[u8],
@@ -83,25 +86,25 @@ fn push_tables(out: &mut Vec<u8>, section: &[u8]) -> Result<Option<Fault>, Alloc
     Ok(None)
 }
 
-/// Appends the text of all abbreviation tables, from the section's start: the line of each table, and each of its
-/// declarations with a line for each pair.
+/// Appends the text of all abbreviation tables, from the section's start: the line of each table, and
+/// each of its declarations with a line for each pair (DWARF 5 section 7.5.3).
 ///
-/// Answers the first fault where there is one: 31, 32 or 33. All text before it then stands in `out`, the line of the
-/// table in which it stands among it. After want of memory `out` is as it was.
+/// Answers the first fault, where there is one: `DeclTruncated`, `LebTooLarge` or `ChildrenByte`. Unlike
+/// after the other calls' refusals, all text before it then stays in `out`, the line of the table in which
+/// it stands among it.
+///
+/// # Errors
+/// Only want of memory; `out` is then as it was.
 pub fn write_tables(
     _alloc: Global,
     section: &[u8],
     out: &mut Vec<u8>,
 ) -> Result<Option<Fault>, AllocError>
-    ensures ok { IfOk result (λ fault. (fault ≡ (tables_text section.now).1) × (out.new.items ≡ out.old.items ++ (tables_text section.now).0)) }
+    ensures ok { IfOk result (λ fault. (fault ≡ (tables_text section.now).1)
+        × (out.new.items ≡ out.old.items ++ (tables_text section.now).0)) }
     ensures err { OnErr result (out.new.items ≡ out.old.items) }
 {
     let before = out.len();
-    match push_tables(out, section) {
-        Ok(fault) => Ok(fault),
-        Err(error) => {
-            out.truncate(before);
-            Err(error)
-        }
-    }
+    let done = push_tables(out, section);
+    keep_whole(out, before, done)
 }

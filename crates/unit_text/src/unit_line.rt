@@ -1,8 +1,10 @@
 //! The line of a unit: what its header says (DWARF 5 section 7.5.1.1).
+
 ghost use Rattle.std.specs.Prelude.{◌≡◌, ◌++◌, OnErr, OnOk};
 ghost use Rattle.dw_text.specs.Added.{Adds};
 ghost use Rattle.unit_text.specs.UnitLine.{extra_text, format_text, kind_text, unit_bounds, unit_line, unit_start};
 
+use crate::pieces::keep_whole;
 use dw_text::{push_decimal_after, push_hex_after, push_sixteen_after, push_text, push_text_after};
 use std::alloc::{AllocError, Global};
 use unit_headers::{Extra, UnitHeader, UnitKind};
@@ -86,8 +88,9 @@ pub(crate) fn push_unit_line(out: &mut Vec<u8>, header: &UnitHeader) -> Result<(
     Ok(())
 }
 
-/// Appends the line of a unit: its number, its place, its format, version and type, its address size, where its
-/// declarations and its entries begin and where it ends, and the id or the signature that its type adds.
+/// Appends the line of a unit: its number, its place, its format, version and type, its address size,
+/// where its declarations and its entries begin and where it ends, and the id or the signature that its
+/// type adds.
 ///
 /// After want of memory `out` is as it was.
 pub fn write_unit_line(
@@ -99,11 +102,6 @@ pub fn write_unit_line(
     ensures err { OnErr result (out.new.items ≡ out.old.items) }
 {
     let before = out.len();
-    match push_unit_line(out, header) {
-        Ok(()) => Ok(()),
-        Err(error) => {
-            out.truncate(before);
-            Err(error)
-        }
-    }
+    let done = push_unit_line(out, header);
+    keep_whole(out, before, done)
 }

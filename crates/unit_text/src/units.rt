@@ -1,54 +1,47 @@
 //! The text of a unit: its line, and its entries with their attributes.
+
 ghost use Rattle.std.specs.Prelude.{map};
 ghost use Rattle.dw_fields.specs.Reading.{IsAddressSize};
 ghost use Rattle.dw_text.specs.Added.{Adds};
 ghost use Rattle.elf_sections.specs.Shapes.{sections_view};
 ghost use Rattle.entry_tree.specs.Views.{attr_view, entry_view};
 ghost use Rattle.unit_text.specs.Pieces.{Puts, Writes};
+ghost use Rattle.unit_text.specs.UnitView.{unit_of, unit_view};
 ghost use Rattle.unit_text.specs.Units.{attr_text, attrs_text, entries_text, entry_line, entry_text, read_unit_text};
 
-use crate::pieces::refused;
+use crate::pieces::{as_put, keep_whole};
+use crate::unit::Unit;
 use crate::unit_line::push_unit_line;
 use crate::values::put_value;
 use dw_names::{push_attribute_after, push_tag_after};
 use dw_text::{push_decimal_after, push_hex_after, push_text};
 use elf_sections::Sections;
 use entry_tree::{Attr, Entry};
-use form_values::{Bases, UnitFacts};
+use form_values::UnitFacts;
 use std::alloc::{AllocError, Global};
 use unit_headers::{UnitHeader, UnitRefusal};
 
 /// Appends the line of an attribute; refused at the attribute's place where its value can't be resolved.
 #[tactic(auto, unfolding(crate::specs::Units::attr_text, crate::specs::Pieces::joined))]
-fn put_attr(
-    out: &mut Vec<u8>,
-    header: &UnitHeader,
-    sections: &Sections<'_>,
-    bases: &Bases,
-    attr: &Attr<'_>,
-) -> Result<(), UnitRefusal>
-    requires { IsAddressSize header.now.address_size }
-    ensures { Puts result out.old.items out.new.items (attr_text header.now (sections_view sections.now) bases.now (attr_view attr.now)) }
+fn put_attr(out: &mut Vec<u8>, unit: &Unit<'_, '_>, attr: &Attr<'_>) -> Result<(), UnitRefusal>
+    requires { IsAddressSize unit.now.header.now.address_size }
+    ensures { Puts result out.old.items out.new.items
+        (attr_text (unit_view unit.now) (attr_view attr.now)) }
 {
-    refused(push_attribute_after(out, b"  ", attr.name))?;
-    put_value(out, header, sections, bases, attr.place, &attr.raw)?;
-    refused(push_text(out, b"\n"))?;
+    as_put(push_attribute_after(out, b"  ", attr.name))?;
+    put_value(out, unit, attr.place, &attr.raw)?;
+    as_put(push_text(out, b"\n"))?;
     Ok(())
 }
 
 /// Appends a line for each attribute.
-fn put_attrs(
-    out: &mut Vec<u8>,
-    header: &UnitHeader,
-    sections: &Sections<'_>,
-    bases: &Bases,
-    attrs: &[Attr<'_>],
-) -> Result<(), UnitRefusal>
-    requires { IsAddressSize header.now.address_size }
-    ensures { Puts result out.old.items out.new.items (attrs_text header.now (sections_view sections.now) bases.now (map attr_view attrs.now)) }
+fn put_attrs(out: &mut Vec<u8>, unit: &Unit<'_, '_>, attrs: &[Attr<'_>]) -> Result<(), UnitRefusal>
+    requires { IsAddressSize unit.now.header.now.address_size }
+    ensures { Puts result out.old.items out.new.items
+        (attrs_text (unit_view unit.now) (map attr_view attrs.now)) }
 {
     for attr in attrs {
-        match put_attr(out, header, sections, bases, attr) {
+        match put_attr(out, unit, attr) {
             Ok(()) => {}
             Err(refusal) => return Err(refusal),
         }
@@ -70,34 +63,28 @@ fn push_entry_line(out: &mut Vec<u8>, entry: &Entry<'_>) -> Result<(), AllocErro
 
 /// Appends the lines of an entry.
 #[tactic(auto, unfolding(crate::specs::Units::entry_text, crate::specs::Pieces::joined))]
-fn put_entry(
-    out: &mut Vec<u8>,
-    header: &UnitHeader,
-    sections: &Sections<'_>,
-    bases: &Bases,
-    entry: &Entry<'_>,
-) -> Result<(), UnitRefusal>
-    requires { IsAddressSize header.now.address_size }
-    ensures { Puts result out.old.items out.new.items (entry_text header.now (sections_view sections.now) bases.now (entry_view entry.now)) }
+fn put_entry(out: &mut Vec<u8>, unit: &Unit<'_, '_>, entry: &Entry<'_>) -> Result<(), UnitRefusal>
+    requires { IsAddressSize unit.now.header.now.address_size }
+    ensures { Puts result out.old.items out.new.items
+        (entry_text (unit_view unit.now) (entry_view entry.now)) }
 {
-    refused(push_entry_line(out, entry))?;
-    put_attrs(out, header, sections, bases, entry.attrs)?;
+    as_put(push_entry_line(out, entry))?;
+    put_attrs(out, unit, entry.attrs)?;
     Ok(())
 }
 
 /// Appends the lines of each entry.
 fn put_entries(
     out: &mut Vec<u8>,
-    header: &UnitHeader,
-    sections: &Sections<'_>,
-    bases: &Bases,
+    unit: &Unit<'_, '_>,
     entries: &[Entry<'_>],
 ) -> Result<(), UnitRefusal>
-    requires { IsAddressSize header.now.address_size }
-    ensures { Puts result out.old.items out.new.items (entries_text header.now (sections_view sections.now) bases.now (map entry_view entries.now)) }
+    requires { IsAddressSize unit.now.header.now.address_size }
+    ensures { Puts result out.old.items out.new.items
+        (entries_text (unit_view unit.now) (map entry_view entries.now)) }
 {
     for entry in entries {
-        match put_entry(out, header, sections, bases, entry) {
+        match put_entry(out, unit, entry) {
             Ok(()) => {}
             Err(refusal) => return Err(refusal),
         }
@@ -109,24 +96,25 @@ fn put_entries(
 #[tactic(auto, unfolding(crate::specs::Units::read_unit_text, crate::specs::Pieces::joined))]
 fn put_unit(
     out: &mut Vec<u8>,
-    header: &UnitHeader,
-    sections: &Sections<'_>,
-    bases: &Bases,
+    unit: &Unit<'_, '_>,
     entries: &[Entry<'_>],
 ) -> Result<(), UnitRefusal>
-    requires { IsAddressSize header.now.address_size }
-    ensures { Puts result out.old.items out.new.items (read_unit_text header.now (sections_view sections.now) bases.now (map entry_view entries.now)) }
+    requires { IsAddressSize unit.now.header.now.address_size }
+    ensures { Puts result out.old.items out.new.items
+        (read_unit_text (unit_view unit.now) (map entry_view entries.now)) }
 {
-    refused(push_unit_line(out, header))?;
-    put_entries(out, header, sections, bases, entries)?;
+    as_put(push_unit_line(out, unit.header))?;
+    put_entries(out, unit, entries)?;
     Ok(())
 }
 
-/// Appends the text of a unit: its line, and for each entry a line with its place, depth and tag, and a line for each
-/// attribute with its name and its value, resolved.
+/// Appends the text of a unit: its line, and for each entry a line with its place, depth and tag, and a
+/// line for each attribute with its name and its value, resolved. The header's address size is 2, 4 or 8.
 ///
-/// Refused with 42 to 45 and 47 where a value can't be resolved, at the attribute's place: the first in the order of
-/// entries and attributes. After any refusal `out` is as it was.
+/// # Errors
+/// Where a value can't be resolved, at the attribute's place: the first in the order of entries and
+/// attributes, with the causes of [`form_values::resolve_text`], [`form_values::resolve_address`] and
+/// [`form_values::resolve_list`]. Want of memory may come at any time. `out` is then as it was.
 pub fn write_unit(
     _alloc: Global,
     header: &UnitHeader,
@@ -136,14 +124,16 @@ pub fn write_unit(
     out: &mut Vec<u8>,
 ) -> Result<(), UnitRefusal>
     requires { IsAddressSize header.now.address_size }
-    ensures { Writes result out.old.items out.new.items (read_unit_text header.now (sections_view sections.now) facts.now.bases (map entry_view entries.now)) }
+    ensures { Writes result out.old.items out.new.items
+        (read_unit_text (unit_of (sections_view sections.now) header.now facts.now)
+        (map entry_view entries.now)) }
 {
+    let unit = Unit {
+        sections,
+        header,
+        facts,
+    };
     let before = out.len();
-    match put_unit(out, header, sections, &facts.bases, entries) {
-        Ok(()) => Ok(()),
-        Err(refusal) => {
-            out.truncate(before);
-            Err(refusal)
-        }
-    }
+    let done = put_unit(out, &unit, entries);
+    keep_whole(out, before, done)
 }

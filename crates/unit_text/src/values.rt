@@ -1,22 +1,23 @@
 //! The texts of attribute values (DWARF 5 section 7.5.5), each behind a blank.
+
 ghost use Rattle.std.specs.Prelude.{◌≡◌, IsTrue};
 ghost use Rattle.dw_fields.specs.Reading.{IsAddressSize};
 ghost use Rattle.dw_text.specs.Added.{Adds};
-ghost use Rattle.elf_sections.specs.Shapes.{sections_view};
+ghost use Rattle.unit_text.specs.UnitView.{unit_view};
 ghost use Rattle.form_values.specs.View.{is_address, is_list, is_text, raw_view};
 ghost use Rattle.unit_text.specs.Pieces.{Puts};
 ghost use Rattle.unit_text.specs.Values.{address_text, address_value, counted, flag_text, list_value, offset_text, quoted, text_value, value_text};
 
-use crate::pieces::refused;
+use crate::pieces::as_put;
+use crate::unit::Unit;
 use dw_fields::Fault;
 use dw_text::{
     push_decimal_after, push_escaped_after, push_hex_after, push_hex_bytes_after,
     push_signed_after, push_sixteen_after, push_text,
 };
-use elf_sections::Sections;
-use form_values::{Bases, Raw, resolve_address, resolve_list, resolve_text};
+use form_values::{Raw, resolve_address, resolve_list, resolve_text};
 use std::alloc::AllocError;
-use unit_headers::{UnitHeader, UnitRefusal};
+use unit_headers::UnitRefusal;
 
 /// Appends a text in quotes, escaped.
 #[tactic(auto, unfolding(crate::specs::Values::quoted))]
@@ -66,19 +67,18 @@ fn push_offset(out: &mut Vec<u8>, offset: u64) -> Result<(), AllocError>
 #[tactic(auto, unfolding(crate::specs::Values::address_value))]
 fn put_address(
     out: &mut Vec<u8>,
-    header: &UnitHeader,
-    sections: &Sections<'_>,
-    bases: &Bases,
+    unit: &Unit<'_, '_>,
     place: u64,
     raw: &Raw<'_>,
 ) -> Result<(), UnitRefusal>
-    requires size { IsAddressSize header.now.address_size }
+    requires size { IsAddressSize unit.now.header.now.address_size }
     requires kind { IsTrue (is_address (raw_view raw.now)) }
-    ensures { Puts result out.old.items out.new.items (address_value header.now (sections_view sections.now) bases.now place (raw_view raw.now)) }
+    ensures { Puts result out.old.items out.new.items
+        (address_value (unit_view unit.now) place (raw_view raw.now)) }
 {
-    match resolve_address(raw, header, sections, bases) {
-        Ok(address) => refused(push_address(out, address)),
-        Err(code) => Err(UnitRefusal::Refused(Fault { code, place })),
+    match resolve_address(raw, unit.header, unit.sections, &unit.facts.bases) {
+        Ok(address) => as_put(push_address(out, address)),
+        Err(code) => Err(UnitRefusal::Refused(Fault::at(code, place))),
     }
 }
 
@@ -86,18 +86,17 @@ fn put_address(
 #[tactic(auto, unfolding(crate::specs::Values::text_value))]
 fn put_text(
     out: &mut Vec<u8>,
-    header: &UnitHeader,
-    sections: &Sections<'_>,
-    bases: &Bases,
+    unit: &Unit<'_, '_>,
     place: u64,
     raw: &Raw<'_>,
 ) -> Result<(), UnitRefusal>
     requires { IsTrue (is_text (raw_view raw.now)) }
-    ensures { Puts result out.old.items out.new.items (text_value header.now (sections_view sections.now) bases.now place (raw_view raw.now)) }
+    ensures { Puts result out.old.items out.new.items
+        (text_value (unit_view unit.now) place (raw_view raw.now)) }
 {
-    match resolve_text(raw, header, sections, bases) {
-        Ok(text) => refused(push_quoted(out, text)),
-        Err(code) => Err(UnitRefusal::Refused(Fault { code, place })),
+    match resolve_text(raw, unit.header, unit.sections, &unit.facts.bases) {
+        Ok(text) => as_put(push_quoted(out, text)),
+        Err(code) => Err(UnitRefusal::Refused(Fault::at(code, place))),
     }
 }
 
@@ -105,18 +104,17 @@ fn put_text(
 #[tactic(auto, unfolding(crate::specs::Values::list_value))]
 fn put_list(
     out: &mut Vec<u8>,
-    header: &UnitHeader,
-    sections: &Sections<'_>,
-    bases: &Bases,
+    unit: &Unit<'_, '_>,
     place: u64,
     raw: &Raw<'_>,
 ) -> Result<(), UnitRefusal>
     requires { IsTrue (is_list (raw_view raw.now)) }
-    ensures { Puts result out.old.items out.new.items (list_value header.now (sections_view sections.now) bases.now place (raw_view raw.now)) }
+    ensures { Puts result out.old.items out.new.items
+        (list_value (unit_view unit.now) place (raw_view raw.now)) }
 {
-    match resolve_list(raw, header, sections, bases) {
-        Ok(offset) => refused(push_offset(out, offset)),
-        Err(code) => Err(UnitRefusal::Refused(Fault { code, place })),
+    match resolve_list(raw, unit.header, unit.sections, &unit.facts.bases) {
+        Ok(offset) => as_put(push_offset(out, offset)),
+        Err(code) => Err(UnitRefusal::Refused(Fault::at(code, place))),
     }
 }
 
@@ -124,34 +122,31 @@ fn put_list(
 #[tactic(auto, unfolding(crate::specs::Values::value_text))]
 pub(crate) fn put_value(
     out: &mut Vec<u8>,
-    header: &UnitHeader,
-    sections: &Sections<'_>,
-    bases: &Bases,
+    unit: &Unit<'_, '_>,
     place: u64,
     raw: &Raw<'_>,
 ) -> Result<(), UnitRefusal>
-    requires { IsAddressSize header.now.address_size }
-    ensures { Puts result out.old.items out.new.items (value_text header.now (sections_view sections.now) bases.now place (raw_view raw.now)) }
+    requires { IsAddressSize unit.now.header.now.address_size }
+    ensures { Puts result out.old.items out.new.items
+        (value_text (unit_view unit.now) place (raw_view raw.now)) }
 {
     match *raw {
-        Raw::Address(_) | Raw::AddressIndex(_) => put_address(
-            out, header, sections, bases, place, raw,
-        ),
-        Raw::Block(bytes) => refused(push_counted(out, b" block ", bytes)),
-        Raw::Expression(bytes) => refused(push_counted(out, b" expression ", bytes)),
-        Raw::Unsigned(number) => refused(push_decimal_after(out, b" unsigned ", number)),
-        Raw::Signed(number) => refused(push_signed_after(out, b" signed ", number)),
-        Raw::Wide(bytes) => refused(push_hex_bytes_after(out, b" bytes ", bytes)),
-        Raw::Flag(flag) => refused(push_text(out, flag_text(flag))),
+        Raw::Address(_) | Raw::AddressIndex(_) => put_address(out, unit, place, raw),
+        Raw::Block(bytes) => as_put(push_counted(out, b" block ", bytes)),
+        Raw::Expression(bytes) => as_put(push_counted(out, b" expression ", bytes)),
+        Raw::Unsigned(number) => as_put(push_decimal_after(out, b" unsigned ", number)),
+        Raw::Signed(number) => as_put(push_signed_after(out, b" signed ", number)),
+        Raw::Wide(bytes) => as_put(push_hex_bytes_after(out, b" bytes ", bytes)),
+        Raw::Flag(flag) => as_put(push_text(out, flag_text(flag))),
         Raw::Text(_) | Raw::TextOffset(_) | Raw::LineTextOffset(_) | Raw::TextIndex(_) => {
-            put_text(out, header, sections, bases, place, raw)
+            put_text(out, unit, place, raw)
         }
-        Raw::Local(offset) => refused(push_hex_after(out, b" entry 0x", offset)),
-        Raw::Global(offset) => refused(push_hex_after(out, b" global 0x", offset)),
-        Raw::Signature(signature) => refused(push_sixteen_after(out, b" signature 0x", signature)),
+        Raw::Local(offset) => as_put(push_hex_after(out, b" entry 0x", offset)),
+        Raw::Global(offset) => as_put(push_hex_after(out, b" global 0x", offset)),
+        Raw::Signature(signature) => as_put(push_sixteen_after(out, b" signature 0x", signature)),
         Raw::Offset(_) | Raw::RangeIndex(_) | Raw::LocationIndex(_) => put_list(
-            out, header, sections, bases, place, raw,
+            out, unit, place, raw,
         ),
-        Raw::Supplement(offset) => refused(push_hex_after(out, b" supplement 0x", offset)),
+        Raw::Supplement(offset) => as_put(push_hex_after(out, b" supplement 0x", offset)),
     }
 }

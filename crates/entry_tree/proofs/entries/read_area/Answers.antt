@@ -1,12 +1,12 @@
-use Rattle.std.proofs.Common.{◌≡◌, ◌+◌, ◌-◌, ℕ, List, map, rules, ap, sym, subst, ◌∙◌, arith, Ok}
+use Rattle.std.proofs.Common.{◌≡◌, ◌+◌, ◌-◌, ℕ, List, map, rules, ap, subst, ◌∙◌, arith, Ok}
 use Rattle.dw_fields.specs.Span.{Span, at}
+use Rattle.abbrev_decl.specs.Lookup.{LeavesSource}
 use Rattle.form_values.specs.View.{widths_of}
 use Rattle.unit_headers.specs.Refusals.{Refuses}
 use Rattle.entry_tree.specs.Views.{entry_view, stepped_entries}
 use Rattle.entry_tree.specs.Entries.{entry_at, entries_in}
 use Rattle.entry_tree.specs.Keys.{GainsOnly, IsFoundKey}
-use Rattle.entry_tree.specs.KeyLaws.{Extends-then, GainsOnly-then}
-use Rattle.entry_tree.specs.Tiles.{pieces_next}
+use Rattle.entry_tree.proofs.KeyLaws.{GainsOnly-then}
 use Rattle.entry_tree.proofs.AreaSteps.{area_next, area_fails, area_ends, area_stops, keys_next, noted_next, known_next}
 use Rattle.entry_tree.proofs.entries.read_area.Goals as goal
 
@@ -20,29 +20,44 @@ returns-then-left-eq0-clause-entries g c =
 pub returns-in-Err-clause-entries : goal.returns-in-Err-clause-entries
 unfolding entries_in
 returns-in-Err-clause-entries g c =
+    let left : LeavesSource (g.D.Decls.section c.args.decls.now) (g.D.Decls.section c.entries.decls)
+    (g.D.Decls.seen c.args.decls.now) (g.D.Decls.seen c.entries.decls) (g.D.Decls.spent c.args.decls.now) (g.D.Decls.spent c.entries.decls)
+    = let p = c.entries.invariant.follows in search rules in
     let P : List ℕ → Type 0 = λ section. Refuses c.in-Err.refusal (entry_at section c.args.header.now.«abbrev» (widths_of c.args.header.now) c.entries.depth c.entries.cut) in
     area_fails (entry_at (g.D.Decls.section c.args.decls.now) c.args.header.now.«abbrev» (widths_of c.args.header.now))
     (c.left-turns.result - c.entries._turn) (c.left-turns.result - (c.entries._turn + 1)) c.entries.depth c.left-turns.result c.entries.cut c.args.cut.now
     (map entry_view c.entries.entries.items) c.in-Err.refusal
-    (omega arith) (omega arith) (omega arith) (subst P c.entries.invariant.kept c.in-Err.ensures.entry) c.entries.invariant.walked
+    (omega arith) (omega arith) (omega arith) (subst P left.kept c.in-Err.ensures.entry) c.entries.invariant.walked
 
 pub returns-in-Err-clause-placed : goal.returns-in-Err-clause-placed
 returns-in-Err-clause-placed g c =
+    let left : LeavesSource (g.D.Decls.section c.args.decls.now) (g.D.Decls.section c.entries.decls)
+    (g.D.Decls.seen c.args.decls.now) (g.D.Decls.seen c.entries.decls) (g.D.Decls.spent c.args.decls.now) (g.D.Decls.spent c.entries.decls)
+    = let p = c.entries.invariant.follows in search rules in
     let P : List ℕ → Type 0 = λ section. GainsOnly (IsFoundKey section c.args.header.now.«abbrev») (g.D.Decls.placed c.entries.decls) (g.D.Decls.placed c.read_entry.new.decls) in
-    GainsOnly-then _ _ _ _ c.entries.invariant.placed (subst P c.entries.invariant.kept c.in-Err.ensures.placed)
+    GainsOnly-then _ _ _ _ c.entries.invariant.placed (subst P left.kept c.in-Err.ensures.placed)
 
 pub returns-in-Err-add_entry-clause-placed : goal.returns-in-Err-add_entry-clause-placed
 returns-in-Err-add_entry-clause-placed g c =
+    let left : LeavesSource (g.D.Decls.section c.args.decls.now) (g.D.Decls.section c.entries.decls)
+    (g.D.Decls.seen c.args.decls.now) (g.D.Decls.seen c.entries.decls) (g.D.Decls.spent c.args.decls.now) (g.D.Decls.spent c.entries.decls)
+    = let p = c.entries.invariant.follows in search rules in
     let P : List ℕ → Type 0 = λ section. GainsOnly (IsFoundKey section c.args.header.now.«abbrev») (g.D.Decls.placed c.entries.decls) (g.D.Decls.placed c.read_entry.new.decls) in
-    GainsOnly-then _ _ _ _ c.entries.invariant.placed (subst P c.entries.invariant.kept c.in-Ok.ensures.placed)
+    GainsOnly-then _ _ _ _ c.entries.invariant.placed (subst P left.kept c.in-Ok.ensures.placed)
 
 pub entries-preserved : goal.entries-preserved
 entries-preserved g c =
+    let left : LeavesSource (g.D.Decls.section c.args.decls.now) (g.D.Decls.section c.entries.decls)
+    (g.D.Decls.seen c.args.decls.now) (g.D.Decls.seen c.entries.decls) (g.D.Decls.spent c.args.decls.now) (g.D.Decls.spent c.entries.decls)
+    = let p = c.entries.invariant.follows in search rules in
     let P : List ℕ → Type 0 = λ section. GainsOnly (IsFoundKey section c.args.header.now.«abbrev») (g.D.Decls.placed c.entries.decls) (g.D.Decls.placed c.read_entry.new.decls) in
     let Q : List ℕ → Type 0 = λ section. entry_at section c.args.header.now.«abbrev» (widths_of c.args.header.now) c.entries.depth c.entries.cut
     ≡ Ok ((c.in-Ok.stepped.depth, stepped_entries c.in-Ok.stepped), c.read_entry.new.cut.place) in
     let p = c.entries.invariant.follows in
     let q = c.in-Ok.ensures.follows in
+    let step : LeavesSource (g.D.Decls.section c.entries.decls) (g.D.Decls.section c.read_entry.new.decls)
+    (g.D.Decls.seen c.entries.decls) (g.D.Decls.seen c.read_entry.new.decls) (g.D.Decls.spent c.entries.decls) (g.D.Decls.spent c.read_entry.new.decls)
+    = search rules in
     record {
       same = c.in-Ok.ensures.entry.1 ∙ ap (λ (s : Span). at s c.read_entry.new.cut.place) c.entries.invariant.same;
       moved = omega (arith, c.in-Ok.ensures.forward.0);
@@ -50,20 +65,14 @@ entries-preserved g c =
       walked = area_next (entry_at (g.D.Decls.section c.args.decls.now) c.args.header.now.«abbrev» (widths_of c.args.header.now))
           (c.left-turns.result - c.entries._turn) (c.left-turns.result - (c.entries._turn + 1)) c.entries.depth c.in-Ok.stepped.depth c.entries.cut c.read_entry.new.cut
           (map entry_view c.entries.entries.items) (stepped_entries c.in-Ok.stepped) (map entry_view c.add_entry.new.entries.items) _
-          (omega arith) (omega arith) (subst Q c.entries.invariant.kept c.in-Ok.ensures.entry.0) c.in-Ok.ensures.entry.1 c.in-Ok-add_entry.ensures c.entries.invariant.walked;
-      tiled = pieces_next (g.D.Decls.section c.args.decls.now) c.args.header.now.«abbrev» (widths_of c.args.header.now) c.args.cut.now c.entries.cut c.read_entry.new.cut
-          c.entries.depth c.in-Ok.stepped.depth (map entry_view c.entries.entries.items) (stepped_entries c.in-Ok.stepped) (map entry_view c.add_entry.new.entries.items)
-          c.entries.invariant.tiled c.entries.invariant.same (omega (arith, c.in-Ok.ensures.forward.0)) (subst Q c.entries.invariant.kept c.in-Ok.ensures.entry.0) c.in-Ok-add_entry.ensures;
-      kept = c.in-Ok.ensures.kept ∙ c.entries.invariant.kept;
+          (omega arith) (omega arith) (subst Q left.kept c.in-Ok.ensures.entry.0) c.in-Ok.ensures.entry.1 c.in-Ok-add_entry.ensures c.entries.invariant.walked;
       follows = search rules;
-      seen = Extends-then _ _ _ c.entries.invariant.seen c.in-Ok.ensures.seen;
-      spent = λ e. c.in-Ok.ensures.spent (c.entries.invariant.spent e);
-      placed = GainsOnly-then _ _ _ _ c.entries.invariant.placed (subst P c.entries.invariant.kept c.in-Ok.ensures.placed);
+      placed = GainsOnly-then _ _ _ _ c.entries.invariant.placed (subst P left.kept c.in-Ok.ensures.placed);
       keys = keys_next c.args.header.now.«abbrev» (map entry_view c.entries.entries.items) (stepped_entries c.in-Ok.stepped) _ _ _ _ c.in-Ok-add_entry.ensures c.entries.invariant.keys c.in-Ok.ensures.keys;
       noted = noted_next c.args.header.now.«abbrev» (map entry_view c.entries.entries.items) (stepped_entries c.in-Ok.stepped) _ _ _ _ _ c.in-Ok-add_entry.ensures
-          c.in-Ok.ensures.seen c.in-Ok.ensures.spent c.entries.invariant.noted c.in-Ok.ensures.noted;
+          step.seen step.spent c.entries.invariant.noted c.in-Ok.ensures.noted;
       known = known_next c.args.header.now.«abbrev» (map entry_view c.entries.entries.items) (stepped_entries c.in-Ok.stepped) _ _ _ _ _ _ c.in-Ok-add_entry.ensures
-          c.entries.invariant.seen c.entries.invariant.known c.in-Ok.ensures.known;
+          left.seen c.entries.invariant.known c.in-Ok.ensures.known;
     }
 
 pub returns-clause-entries : goal.returns-clause-entries
@@ -72,12 +81,3 @@ returns-clause-entries g c =
     rw c.into_bump_slice-2.ensures (area_stops (entry_at (g.D.Decls.section c.args.decls.now) c.args.header.now.«abbrev» (widths_of c.args.header.now))
     (c.left-turns.result - c.entries._turn) c.entries.depth c.left-turns.result c.entries.cut c.args.cut.now (map entry_view c.entries.entries.items)
     (omega arith) (omega arith) c.entries.invariant.walked)
-
-pub returns-then-left-eq0-clause-tile : goal.returns-then-left-eq0-clause-tile
-returns-then-left-eq0-clause-tile g c =
-    let ends : c.args.cut.now.end ≡ c.entries.cut.end = ap (λ (s : Span). s.end) (sym c.entries.invariant.same) in
-    rw c.into_bump_slice.ensures (record { last_depth = c.entries.depth; last = c.entries.cut.place; pieces = c.entries.invariant.tiled; ends = omega arith })
-
-pub returns-clause-tile : goal.returns-clause-tile
-returns-clause-tile g c =
-    rw c.into_bump_slice-2.ensures (record { last_depth = c.entries.depth; last = c.entries.cut.place; pieces = c.entries.invariant.tiled; ends = omega arith })

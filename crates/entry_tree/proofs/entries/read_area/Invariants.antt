@@ -1,11 +1,9 @@
-use Rattle.std.proofs.Common.{◌≡◌, ◌+◌, ◌-◌, ◌≤◌, map, true}
+use Rattle.std.proofs.Common.{◌≡◌, ◌+◌, ◌-◌, ◌≤◌, map}
 use Rattle.dw_fields.specs.Span.{at}
 use Rattle.dw_fields.specs.Walk.{ahead, walk}
-use Rattle.abbrev_decl.specs.Lookup.{Extends}
 use Rattle.form_values.specs.View.{widths_of}
 use Rattle.entry_tree.specs.Views.{entry_view}
 use Rattle.entry_tree.specs.Entries.{entry_at}
-use Rattle.entry_tree.specs.Tiles.{PiecesUpTo}
 use Rattle.entry_tree.specs.Keys.{GainsOnly, IsFoundKey, IsKeyAmong, KeysKnown, KeysNoted}
 use Rattle.entry_tree.proofs.entries.read_area.Given as goal
 
@@ -16,11 +14,7 @@ invariant-entries g l = record {
   deep : l.fn.cut.place + l.depth ≤ l.cut.place;
   walked : ahead (map entry_view l.entries.items) (walk (entry_at (g.D.Decls.section l.fn.decls) l.header.«abbrev» (widths_of l.header)) (l.turns - l._turn) l.depth l.cut)
       ≡ walk (entry_at (g.D.Decls.section l.fn.decls) l.header.«abbrev» (widths_of l.header)) l.turns 0 l.fn.cut;
-  tiled : PiecesUpTo (g.D.Decls.section l.fn.decls) l.header.«abbrev» (widths_of l.header) l.fn.cut l.depth l.cut.place (map entry_view l.entries.items);
-  kept : g.D.Decls.section l.decls ≡ g.D.Decls.section l.fn.decls;
   follows : g.D.Decls.follows l.fn.decls l.decls;
-  seen : Extends (g.D.Decls.seen l.fn.decls) (g.D.Decls.seen l.decls);
-  spent : g.D.Decls.spent l.fn.decls ≡ true → g.D.Decls.spent l.decls ≡ true;
   placed : GainsOnly (IsFoundKey (g.D.Decls.section l.fn.decls) l.header.«abbrev») (g.D.Decls.placed l.fn.decls) (g.D.Decls.placed l.decls);
   keys : GainsOnly (IsKeyAmong l.header.«abbrev» (map entry_view l.entries.items)) (g.D.Decls.placed l.fn.decls) (g.D.Decls.placed l.decls);
   noted : KeysNoted (g.D.Decls.seen l.decls) (g.D.Decls.spent l.decls) l.header.«abbrev» (map entry_view l.entries.items);

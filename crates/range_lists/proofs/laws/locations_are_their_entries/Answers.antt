@@ -1,4 +1,4 @@
-use Rattle.range_lists.specs.PastLaws.{location_list-IsList}
+use Rattle.range_lists.proofs.PastLaws.{location_list-IsList}
 use Rattle.range_lists.proofs.laws.locations_are_their_entries.Goals as goal
 
 pub returns : goal.returns

@@ -1,4 +1,4 @@
-use Rattle.range_lists.specs.PastLaws.{range_list-IsList}
+use Rattle.range_lists.proofs.PastLaws.{range_list-IsList}
 use Rattle.range_lists.proofs.laws.ranges_are_their_entries.Goals as goal
 
 pub returns : goal.returns

@@ -1,8 +1,9 @@
 use Rattle.std.proofs.Common.{Ok, Err, arith}
-use Rattle.entry_tree.specs.declared.shapes.Attr.{Attr}
-use Rattle.unit_text.specs.Loops.{texts_next, texts_stop, texts_end, texts_map}
+use Rattle.entry_tree.specs.declared.entry.Attr.{Attr}
+use Rattle.unit_text.proofs.Loops.{texts_next, texts_stop, texts_end, texts_map}
 use Rattle.entry_tree.specs.Views.{attr_view}
-use Rattle.unit_text.specs.Lists.{attr_lists, unit_view}
+use Rattle.unit_text.specs.Lists.{attr_lists}
+use Rattle.unit_text.specs.UnitView.{unit_view}
 use Rattle.unit_text.proofs.lists.put_attrs_lists.Goals as goal
 
 pub loop-attr-init : goal.loop-attr-init

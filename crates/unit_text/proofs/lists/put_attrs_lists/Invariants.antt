@@ -1,9 +1,10 @@
 use Rattle.std.proofs.Common.{ℕ, List, drop, map, Result}
 use Rattle.unit_headers.specs.declared.refusal.UnitRefusal.{UnitRefusal}
-use Rattle.entry_tree.specs.declared.shapes.Attr.{Attr}
+use Rattle.entry_tree.specs.declared.entry.Attr.{Attr}
 use Rattle.unit_text.specs.Pieces.{Puts, texts_of}
 use Rattle.entry_tree.specs.Views.{attr_view}
-use Rattle.unit_text.specs.Lists.{attr_lists, unit_view}
+use Rattle.unit_text.specs.Lists.{attr_lists}
+use Rattle.unit_text.specs.UnitView.{unit_view}
 use Rattle.unit_text.proofs.lists.put_attrs_lists.Given as goal
 
 -- whatever appends the texts that are left makes the whole append all of them

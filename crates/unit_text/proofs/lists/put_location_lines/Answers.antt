@@ -1,6 +1,6 @@
 use Rattle.std.proofs.Common.{Ok, Err, arith}
 use Rattle.range_lists.specs.declared.locations.Location.{Location}
-use Rattle.unit_text.specs.Loops.{texts_next, texts_stop, texts_end, texts_map}
+use Rattle.unit_text.proofs.Loops.{texts_next, texts_stop, texts_end, texts_map}
 use Rattle.range_lists.specs.Locations.{location_view}
 use Rattle.unit_text.specs.Lists.{location_line}
 use Rattle.unit_text.proofs.lists.put_location_lines.Goals as goal

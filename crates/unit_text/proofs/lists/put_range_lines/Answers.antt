@@ -1,5 +1,5 @@
 use Rattle.std.proofs.Common.{Ok, Err, arith}
-use Rattle.unit_text.specs.Loops.{texts_next, texts_stop, texts_end}
+use Rattle.unit_text.proofs.Loops.{texts_next, texts_stop, texts_end}
 use Rattle.unit_text.specs.Lists.{range_line}
 use Rattle.unit_text.proofs.lists.put_range_lines.Goals as goal
 

@@ -1,7 +1,7 @@
 use Rattle.std.proofs.Common.{List, ℕ, drop, map, Result}
-use Rattle.elf_sections.specs.Shapes.{sections_view}
+use Rattle.unit_text.specs.UnitView.{unit_view}
 use Rattle.unit_headers.specs.declared.refusal.UnitRefusal.{UnitRefusal}
-use Rattle.entry_tree.specs.declared.shapes.Attr.{Attr}
+use Rattle.entry_tree.specs.declared.entry.Attr.{Attr}
 use Rattle.entry_tree.specs.Views.{attr_view}
 use Rattle.unit_text.specs.Pieces.{Puts, texts_of}
 use Rattle.unit_text.specs.Units.{attr_text, attrs_text}
@@ -9,5 +9,5 @@ use Rattle.unit_text.proofs.units.put_attrs.Given as goal
 
 abbrev pub invariant-loop-attr : goal.invariant-loop-attr
 invariant-loop-attr l = (r : Result (Unit {0}) UnitRefusal) (new : List ℕ)
-    → Puts r l.out.items new (texts_of (λ (x : Attr). attr_text l.header (sections_view l.sections) l.bases (attr_view x)) (drop l.attr-index l.attrs))
-    → Puts r l.fn.out.items new (attrs_text l.header (sections_view l.sections) l.bases (map attr_view l.attrs))
+    → Puts r l.out.items new (texts_of (λ (x : Attr). attr_text (unit_view l.unit) (attr_view x)) (drop l.attr-index l.attrs))
+    → Puts r l.fn.out.items new (attrs_text (unit_view l.unit) (map attr_view l.attrs))

@@ -15,14 +15,15 @@ use Rattle.range_lists.specs.declared.kinds.Kind.{Kind}
 use Rattle.range_lists.specs.declared.kinds.Kind.TheVariants as kinds
 use Rattle.range_lists.specs.declared.operands.Operands.{Operands}
 use Rattle.range_lists.specs.declared.operands.Operands.TheVariants.{End, Base, Bounds}
-use Rattle.range_lists.specs.Kinds.{range_kind, location_kind, known_kind, kind_number_at, kind_at}
+use Rattle.range_lists.specs.Kinds.{range_kind, location_kind, known_kind, kind_number_at, list_kind_at}
+use Rattle.form_values.specs.Resolved.{refused_at}
 use Rattle.range_lists.specs.Context.{Context}
-use Rattle.range_lists.specs.Operands.{based, refused_at, number_operand_at, address_operand_at, index_at, startx_endx_at, startx_length_at, offset_pair_at, start_end_at, start_length_at, operands_at}
+use Rattle.range_lists.specs.Operands.{based, number_operand_at, address_operand_at, index_at, startx_endx_at, startx_length_at, offset_pair_at, start_end_at, start_length_at, operands_at}
 use Rattle.range_lists.specs.Ranges.{range_entry_at}
 use Rattle.range_lists.specs.Locations.{expression_at, located, location_entry_at}
-use Rattle.range_lists.specs.Turns.{list_at, span_from}
+use Rattle.range_lists.specs.ListSteps.{list_at, span_from}
 use Rattle.range_lists.specs.Entries.{IsList}
-use Rattle.range_lists.specs.EntriesLaws.{IsEntry, list_at-IsList}
+use Rattle.range_lists.proofs.EntriesLaws.{IsEntry, list_at-IsList}
 use Rattle.dw_fields.specs.declared.byte_order.Order.{Order}
 
 -- a reader after another: the second begins where the first ended
@@ -83,19 +84,19 @@ operands_past c base kinds.BaseAddress place s inside = based_past s (address_op
 operands_past c base kinds.StartEnd place s inside = two_past s (address_operand_at c s) (λ low. address_operand_at c (at s low.1)) _ (address_past c s) (λ low. address_past c (at s low.1))
 operands_past c base kinds.StartLength place s inside = two_past s (address_operand_at c s) (λ low. number_operand_at (at s low.1)) _ (address_past c s) (λ low. number_past (at s low.1))
 
-kind_past : (kinds : ℕ → Option Kind) (s : Span) → IsPast 1 s (kind_at kinds s)
-unfolding kind_at kind_number_at
+kind_past : (kinds : ℕ → Option Kind) (s : Span) → IsPast 1 s (list_kind_at kinds s)
+unfolding list_kind_at kind_number_at
 kind_past kinds s = past_next 1 s (renamed Truncated ListUnended (number_at 1 s)) _ (renamed_past 1 Truncated ListUnended s (number_at 1 s) (number_at-past 1 s)) (λ r low high. past_kept (at s r.1) (known_kind s.place (kinds r.0)) r.1 (omega arith) high)
 
 -- where the section ends no kind stands
-kind_end : (kinds : ℕ → Option Kind) (s : Span) → s.end ≤ s.place → s.place ≤ s.end → kind_at kinds s ≡ Err (fault ListUnended s.end)
-unfolding kind_at kind_number_at number_at bytes_at
+kind_end : (kinds : ℕ → Option Kind) (s : Span) → s.end ≤ s.place → s.place ≤ s.end → list_kind_at kinds s ≡ Err (fault ListUnended s.end)
+unfolding list_kind_at kind_number_at number_at bytes_at
 kind_end kinds s past inside = rw (lt-leb (s.place + 1) s.end (omega arith)) (ap (λ place. Err (fault ListUnended place)) (omega arith))
 
 range_past : (c : Context) (base : ℕ) (s : Span) → IsPast 1 s (range_entry_at c base s)
 unfolding range_entry_at
 range_past c base s =
-    past_next 1 s (kind_at range_kind s) _ (kind_past range_kind s) (λ k low high.
+    past_next 1 s (list_kind_at range_kind s) _ (kind_past range_kind s) (λ k low high.
     past_next 0 (at s k.1) (operands_at c base k.0 s.place (at s k.1)) _ (operands_past c base k.0 s.place (at s k.1) high) (λ o _ within. (omega arith, within)))
 
 range_end : (c : Context) (base : ℕ) (s : Span) → s.end ≤ s.place → s.place ≤ s.end → range_entry_at c base s ≡ Err (fault ListUnended s.end)
@@ -120,7 +121,7 @@ located_past base (Bounds range) s inside = past_next 0 s (expression_at s) _ (e
 location_past : (c : Context) (base : ℕ) (s : Span) → IsPast 1 s (location_entry_at c base s)
 unfolding location_entry_at
 location_past c base s =
-    past_next 1 s (kind_at location_kind s) _ (kind_past location_kind s) (λ k low high.
+    past_next 1 s (list_kind_at location_kind s) _ (kind_past location_kind s) (λ k low high.
     past_next 0 (at s k.1) (operands_at c base k.0 s.place (at s k.1)) _ (operands_past c base k.0 s.place (at s k.1) high) (λ o _ within.
     located_past base o.0 (at s o.1) within))
 

@@ -1,10 +1,12 @@
 -- Laws on keys that were seen and placed.
-use Rattle.std.specs.Prelude.{◌≡◌, ℕ, ◌++◌, Bool, true, List, [], ◌∷◌, All, Contains, zero, suc}
+use Rattle.std.specs.Prelude.{◌≡◌, ℕ, ◌++◌, Bool, true, List, [], ◌∷◌, All, Contains, zero, suc, Option, Some, None, Result, Ok, Err, refl}
+use Rattle.dw_fields.specs.declared.fault_code.Fault.{Fault}
 use Rattle.std.proofs.Common.{sym, ◌∙◌, ap, inl, inr, append-nil, append_assoc, arith}
 use Rattle.std.proofs.lemmas.List.Elements.{All-append, Contains-append_left}
-use Rattle.abbrev_decl.specs.Lookup.{key, Extends, Notes, PlacesAtMost}
+use Rattle.abbrev_decl.specs.Lookup.{key, first_declaration, Extends, IsSmallFound, Notes, PlacesAtMost}
 use Rattle.entry_tree.specs.Views.{EntryView}
-use Rattle.entry_tree.specs.Keys.{KeysNoted, KeysKnown, IsKeyAmong, GainsOnly}
+use Rattle.entry_tree.specs.declared.first.RootCode.{RootCode}
+use Rattle.entry_tree.specs.Keys.{KeysNoted, KeysKnown, IsKeyAmong, GainsOnly, IsRootKeyOf, RootPlaces}
 
 pub Extends-same : (xs : List ℕ) → Extends xs xs
 Extends-same xs = record { more = []; is = sym (append-nil xs) }
@@ -75,3 +77,12 @@ IsKeyAmong-front table (x ∷ xs) ys k (inr p) = inr (IsKeyAmong-front table xs 
 pub IsKeyAmong-back : (table : ℕ) (xs ys : List EntryView) (k : ℕ) → IsKeyAmong table ys k → IsKeyAmong table (xs ++ ys) k
 IsKeyAmong-back table [] ys k p = p
 IsKeyAmong-back table (x ∷ xs) ys k p = inr (IsKeyAmong-back table xs ys k p)
+
+-- what reading a root places is the root's key
+pub RootPlaces-gains : (section : List ℕ) (table : ℕ) (old new : List ℕ) (root : Result (Option RootCode) Fault)
+    → RootPlaces section table old new root → GainsOnly (IsRootKeyOf table root) old new
+RootPlaces-gains section table old new (Ok (Some root)) placed =
+    GainsOnly-one (IsRootKeyOf table (Ok (Some root))) old new (key table root.code) (IsSmallFound root.code (first_declaration section table root.code))
+    (λ found. record { code = root.code; has = refl; small = found.0; is = refl }) placed
+RootPlaces-gains section table old new (Ok None) same = rw same (GainsOnly-same (IsRootKeyOf table (Ok None)) old)
+RootPlaces-gains section table old new (Err f) same = rw same (GainsOnly-same (IsRootKeyOf table (Err f)) old)

@@ -5,18 +5,19 @@ ghost use Rattle.dw_fields.specs.Reading.{IsAddressSize, Reads};
 ghost use Rattle.form_values.specs.View.{raw_view, widths_of};
 ghost use Rattle.entry_tree.specs.Views.{attr_view};
 ghost use Rattle.entry_tree.specs.Entries.{attrs_at};
-ghost use Rattle.entry_tree.specs.Told.{told_view, told_one, told_more, told_nothing, telling};
+ghost use Rattle.entry_tree.specs.RootValues.{root_values_view, first_value, values_with, no_values, gathered_with};
 
 use crate::attributes::read_attr;
-use crate::shapes::Attr;
+use crate::entry::Attr;
 use abbrev_decl::Attrs;
 use dw_fields::{Cut, Fault};
+use dw_numbers::attribute;
 use form_values::Raw;
 use unit_headers::UnitHeader;
 
-/// Of each attribute that tells a fact the first value.
+/// Of each attribute that gives a fact the first value.
 #[derive(Clone, Copy, Debug)]
-pub(crate) struct Told<'f> {
+pub(crate) struct RootValues<'f> {
     /// `DW_AT_str_offsets_base`
     pub text: Option<Raw<'f>>,
     /// `DW_AT_addr_base`
@@ -32,8 +33,9 @@ pub(crate) struct Told<'f> {
 }
 
 /// The value that was kept, or that of the attribute, if it has the name.
-fn first_told<'f>(kept: Option<Raw<'f>>, name: u64, attr: &Attr<'f>) -> Option<Raw<'f>>
-    ensures { option_map raw_view result ≡ told_one name (option_map raw_view kept.entry) (attr_view attr.entry.now) }
+fn first_value<'f>(kept: Option<Raw<'f>>, name: u64, attr: &Attr<'f>) -> Option<Raw<'f>>
+    ensures { option_map raw_view result
+        ≡ first_value name (option_map raw_view kept.entry) (attr_view attr.entry.now) }
 {
     match kept {
         Some(raw) => Some(raw),
@@ -48,30 +50,33 @@ fn first_told<'f>(kept: Option<Raw<'f>>, name: u64, attr: &Attr<'f>) -> Option<R
 }
 
 /// What was kept, and one attribute more.
-#[tactic(auto, unfolding(crate::specs::Told::told_more))]
-fn keep<'f>(told: &Told<'f>, attr: &Attr<'f>) -> Told<'f>
-    ensures { told_view result ≡ told_more (told_view told.entry.now) (attr_view attr.entry.now) }
+#[tactic(auto, unfolding(crate::specs::RootValues::values_with))]
+fn with_attribute<'f>(values: &RootValues<'f>, attr: &Attr<'f>) -> RootValues<'f>
+    ensures { root_values_view result
+        ≡ values_with (root_values_view values.entry.now) (attr_view attr.entry.now) }
 {
-    Told {
-        text: first_told(told.text, 0x72, attr),
-        address: first_told(told.address, 0x73, attr),
-        ranges: first_told(told.ranges, 0x74, attr),
-        locations: first_told(told.locations, 0x8c, attr),
-        low_pc: first_told(told.low_pc, 0x11, attr),
-        line: first_told(told.line, 0x10, attr),
+    RootValues {
+        text: first_value(values.text, attribute::STR_OFFSETS_BASE, attr),
+        address: first_value(values.address, attribute::ADDR_BASE, attr),
+        ranges: first_value(values.ranges, attribute::RNGLISTS_BASE, attr),
+        locations: first_value(values.locations, attribute::LOCLISTS_BASE, attr),
+        low_pc: first_value(values.low_pc, attribute::LOW_PC, attr),
+        line: first_value(values.line, attribute::STMT_LIST, attr),
     }
 }
 
-/// What the attributes of the pairs tell.
-pub(crate) fn read_told<'f>(
+/// The values among the attributes of the pairs.
+pub(crate) fn read_values<'f>(
     cut: &mut Cut<'f>,
     header: &UnitHeader,
     pairs: Attrs<'f>,
-) -> Result<Told<'f>, Fault>
+) -> Result<RootValues<'f>, Fault>
     requires { IsAddressSize header.now.address_size }
-    ensures { Reads told_view result (λ s. telling told_nothing (attrs_at (widths_of header.now) pairs.entry s)) cut.old cut.new }
+    ensures { Reads root_values_view result
+        (λ s. gathered_with no_values (attrs_at (widths_of header.now) pairs.entry s))
+        cut.old cut.new }
 {
-    let mut told = Told {
+    let mut values = RootValues {
         text: None,
         address: None,
         ranges: None,
@@ -85,7 +90,7 @@ pub(crate) fn read_told<'f>(
             Ok(attr) => attr,
             Err(fault) => return Err(fault),
         };
-        told = keep(&told, &attr);
+        values = with_attribute(&values, &attr);
     }
-    Ok(told)
+    Ok(values)
 }

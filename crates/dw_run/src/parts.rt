@@ -13,7 +13,8 @@ use bumpalo::Bump;
 use elf_sections::Sections;
 use entry_tree::{Entry, read_entries, root_facts};
 use form_values::UnitFacts;
-use line_text::write_lines;
+use line_programs::PathTexts;
+use line_text::write_lines_with;
 use std::alloc::Global;
 use unit_headers::{UnitHeader, UnitRefusal};
 use unit_text::{write_lists, write_unit, write_unit_line};
@@ -36,7 +37,6 @@ pub enum Part {
 ///
 /// # Errors
 /// The first fault of the part, or want of memory; `out` is then as it was.
-#[tactic(auto, unfolding(crate::specs::Parts::part_of))]
 pub fn append_part(
     alloc: Global,
     part: Part,
@@ -50,6 +50,28 @@ pub fn append_part(
     ensures { Writes result out.old.items out.new.items
         (part_of part (sections_view sections.now) header.now) }
 {
+    let mut texts = PathTexts::new(sections);
+    append_part_with(alloc, part, arena, sections, &mut texts, header, out)
+}
+
+/// The same, with the finder of the texts of paths that the file's other units were read with.
+#[tactic(auto, unfolding(crate::specs::Parts::part_of))]
+pub(crate) fn append_part_with(
+    alloc: Global,
+    part: Part,
+    arena: &Bump,
+    sections: &Sections<'_>,
+    texts: &mut PathTexts<'_>,
+    header: &UnitHeader,
+    out: &mut Vec<u8>,
+) -> Result<(), UnitRefusal>
+    requires unit { IsUnitOf (sections_view sections.now) header.now }
+    requires short { AreShort (sections_view sections.now) }
+    requires texts { texts.old ≡ sections_view sections.now }
+    ensures text { Writes result out.old.items out.new.items
+        (part_of part (sections_view sections.now) header.now) }
+    ensures texts { texts.new ≡ texts.old }
+{
     match part {
         Part::Line => Ok(write_unit_line(alloc, header, out)?),
         Part::Entries => {
@@ -58,7 +80,7 @@ pub fn append_part(
         }
         Part::LineTable => {
             let facts = read_facts(sections, header)?;
-            write_lines(alloc, sections, header, &facts, out)
+            write_lines_with(alloc, texts, header, &facts, out)
         }
         Part::Lists => {
             let (facts, entries) = read_unit(arena, sections, header)?;

@@ -128,9 +128,9 @@ def many_texts(entries, length):
 
 def hostile_files():
     return [
-        ("4000 section names in one text", many_names(4000, 1 << 16), 0),
+        ("2000 section names in one text", many_names(2000, 1 << 16), 0),
         ("2 million attributes without a byte", many_attributes(500, 4000), 500 * 4000 * ATTRIBUTE_BYTES),
-        ("60000 paths in one text", many_paths(60000, 60000), 0),
+        ("100000 paths in one text", many_paths(100000, 100000), 0),
         ("1500 entries behind 1500 declarations", many_declarations(1500), 0),
         ("1000 units behind 1000 declarations", many_units_on_a_table(1000, 1000), 0),
         ("400 units on one line program", many_units_on_a_program(400, 20000), 0),

@@ -1,5 +1,5 @@
 -- How a command's text and the line of its refusal make up an ending.
-use Rattle.std.proofs.Common.{◌≡◌, ◌⊎◌, inl, inr, ℕ, ◌≤◌, ◌<◌, List, Option, Some, None, IfSome, ap, ◌∙◌, arith, take, ◌+◌, ◌^◌}
+use Rattle.std.proofs.Common.{◌≡◌, ◌⊎◌, inl, inr, ℕ, ◌≤◌, ◌<◌, List, Option, Some, None, IfSome, ap, ◌∙◌, arith, take, ◌+◌}
 use Rattle.dw_outside.specs.Gains.{Gains, GainsPart}
 use Rattle.dw_outside.specs.GainsLaws.{Gains-nothing, GainsPart-whole, GainsPart-nothing}
 use Rattle.elf_sections.specs.declared.class_layout.TheConstants.{FILE_LIMIT}

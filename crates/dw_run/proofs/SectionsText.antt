@@ -1,5 +1,5 @@
 -- The lines of sections, one after another.
-use Rattle.std.proofs.Common.{◌≡◌, ℕ, ◌+◌, ◌<◌, ◌≤◌, List, [], ◌++◌, map, drop, length, get_or, drop-cons, append-nil, add-one, Option, Some, None, Result, Ok, Err, refl}
+use Rattle.std.proofs.Common.{◌≡◌, ℕ, ◌+◌, ◌<◌, ◌≤◌, List, [], ◌++◌, map, drop, length, get_or, drop-cons, add-one, Option, None, Result, Ok, Err, refl}
 use Rattle.std.proofs.lemmas.List.{drop_all}
 use Rattle.dw_outside.specs.Gains.{Gains, GainsPart}
 use Rattle.dw_outside.specs.GainsLaws.{Gains-nothing, Gains-then, GainsPart-then, GainsPart-more}

@@ -33,12 +33,30 @@ pub enum Part {
 }
 
 /// Appends this part of the unit of a header, which is one of these sections. The unit's entries
-/// lie in the arena. The finder of texts is that of the sections; all units are written with one.
+/// lie in the arena.
 ///
 /// # Errors
 /// The first fault of the part, or want of memory; `out` is then as it was.
-#[tactic(auto, unfolding(crate::specs::Parts::part_of))]
 pub fn append_part(
+    alloc: Global,
+    part: Part,
+    arena: &Bump,
+    sections: &Sections<'_>,
+    header: &UnitHeader,
+    out: &mut Vec<u8>,
+) -> Result<(), UnitRefusal>
+    requires unit { IsUnitOf (sections_view sections.now) header.now }
+    requires short { AreShort (sections_view sections.now) }
+    ensures { Writes result out.old.items out.new.items
+        (part_of part (sections_view sections.now) header.now) }
+{
+    let mut texts = PathTexts::new(sections);
+    append_part_with(alloc, part, arena, sections, &mut texts, header, out)
+}
+
+/// The same, with the finder of the texts of paths that the file's other units were read with.
+#[tactic(auto, unfolding(crate::specs::Parts::part_of))]
+pub(crate) fn append_part_with(
     alloc: Global,
     part: Part,
     arena: &Bump,

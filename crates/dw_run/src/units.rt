@@ -7,7 +7,7 @@ ghost use Rattle.elf_sections.specs.Shapes.{AreShort, sections_view};
 ghost use Rattle.dw_run.specs.CommandTexts.{Prints};
 ghost use Rattle.dw_run.specs.Parts.{part_of_units, units_of};
 
-use crate::parts::{Part, append_part};
+use crate::parts::{Part, append_part_with};
 use crate::refusals::Refusal;
 use crate::unit_texts::{UnitTexts, print_units};
 use bumpalo::Bump;
@@ -18,13 +18,13 @@ use std::alloc::Global;
 use std::marker::Model;
 use unit_headers::{UnitIndex, UnitRefusal};
 
-/// A part of each unit of a file. The entries of one unit at a time lie in the arena.
+/// A part of each unit of a file. The entries of one unit at a time lie in the arena; the finder of
+/// the texts of paths is one for all units.
 #[derive(Drop)]
 struct UnitParts<'f> {
     alloc: Global,
     part: Part,
     sections: Sections<'f>,
-    /// Of all units, so that no text is walked over for each of them.
     texts: PathTexts<'f>,
     index: UnitIndex<'f>,
     arena: Bump,
@@ -40,8 +40,7 @@ impl<'f> Model for UnitParts<'f> {
     ghost view = { λ u. record { part = u.part; sections = sections_view u.sections } };
 
     ghost invariant = { λ u. (u.index ≡ units_of (sections_view u.sections))
-        × AreShort (sections_view u.sections)
-        × (u.texts ≡ sections_view u.sections) };
+        × AreShort (sections_view u.sections) × (u.texts ≡ sections_view u.sections) };
 }
 
 impl<'f> UnitParts<'f> {
@@ -51,12 +50,11 @@ impl<'f> UnitParts<'f> {
         requires short { AreShort (sections_view sections) }
         ensures { result ≡ record { part = part; sections = sections_view sections.entry } }
     {
-        let texts = PathTexts::new(&sections);
         UnitParts {
             alloc,
             part,
+            texts: PathTexts::new(&sections),
             sections,
-            texts,
             index,
             arena: Bump::new(alloc),
         }
@@ -78,7 +76,7 @@ impl<'f> UnitTexts for UnitParts<'f> {
 
     fn append(&mut self, unit: u32, out: &mut Vec<u8>) -> Result<(), UnitRefusal> {
         let header = self.index.header(unit)?;
-        let done = append_part(
+        let done = append_part_with(
             self.alloc,
             self.part,
             &self.arena,

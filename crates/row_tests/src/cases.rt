@@ -91,6 +91,7 @@ impl Case {
             self.failed = true;
             println!(rt; "wanted: {wanted}")?;
             show(rt, "found:  ", line.unwrap_or(b"no line"))?;
+            rt.println("")?;
         }
         self.next = behind(self.next, line);
         Ok(())
@@ -98,10 +99,10 @@ impl Case {
 
     /// Shows the lines that nothing wanted, and says whether the row is as it should be.
     pub fn finish<R: Print>(&mut self, rt: &R) -> io::Result<()> {
-        while let Some(line) = next_line(self.printed.as_slice(), self.next) {
+        let rest = self.printed.get(self.next..).unwrap_or(b"");
+        for line in rest.split_inclusive(|byte| *byte == b'\n') {
             self.failed = true;
             show(rt, "found:  ", line)?;
-            self.next = behind(self.next, Some(line));
         }
         let title = self.title.as_str();
         if title.is_empty() {
@@ -131,9 +132,9 @@ fn behind(place: usize, line: Option<&[u8]>) -> usize {
     }
 }
 
+/// Prints a word and a line.
 fn show<R: Print>(rt: &R, word: &str, line: &[u8]) -> io::Result<()> {
     rt.print(word)?;
     let mut writer = io::writer(rt);
-    writer.write_all(line)?;
-    rt.println("")
+    writer.write_all(line)
 }

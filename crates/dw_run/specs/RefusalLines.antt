@@ -35,8 +35,8 @@ section_text Relocatable = []
 section_text (NameOutside i) = labelled (codes " section ") (decimal i)
 section_text FileLimit = []
 
-unfoldable pub file_line : ElfRefusal → List ℕ
-file_line r = labelled (codes "dwtool: file: refusal ") (decimal (file_number r)) ++ section_text r ++ labelled (10 ∷ []) []
+unfoldable pub file_refusal_line : ElfRefusal → List ℕ
+file_refusal_line r = labelled (codes "dwtool: file: refusal ") (decimal (file_number r)) ++ section_text r ++ labelled (10 ∷ []) []
 
 -- the number of a fault and its place, and the end of the line
 unfoldable pub fault_text : Fault → List ℕ
@@ -49,6 +49,6 @@ unfoldable pub tables_fault_line : Fault → List ℕ
 tables_fault_line f = labelled (codes "dwtool: abbrev") [] ++ fault_text f
 
 abbrev pub refusal_line : Refusal → List ℕ
-refusal_line (refusals.File r) = file_line r
+refusal_line (refusals.File r) = file_refusal_line r
 refusal_line (refusals.Unit unit f) = unit_fault_line unit f
 refusal_line (refusals.Tables f) = tables_fault_line f

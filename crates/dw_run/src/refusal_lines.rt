@@ -2,7 +2,7 @@
 
 ghost use Rattle.std.specs.Prelude.{◌≡◌, IfOk};
 ghost use Rattle.dw_text.specs.Added.{Adds};
-ghost use Rattle.dw_run.specs.RefusalLines.{file_line, file_number, fault_text, refusal_line, section_text, tables_fault_line, unit_fault_line};
+ghost use Rattle.dw_run.specs.RefusalLines.{file_refusal_line, file_number, fault_text, refusal_line, section_text, tables_fault_line, unit_fault_line};
 
 use crate::refusals::Refusal;
 use dw_fields::Fault;
@@ -31,9 +31,9 @@ fn push_line(line: &mut Vec<u8>, refusal: &Refusal) -> Result<(), AllocError>
     }
 }
 
-#[tactic(auto, unfolding(crate::specs::RefusalLines::file_line))]
+#[tactic(auto, unfolding(crate::specs::RefusalLines::file_refusal_line))]
 fn push_file_line(line: &mut Vec<u8>, refusal: &ElfRefusal) -> Result<(), AllocError>
-    ensures { Adds result line.old.items line.new.items (file_line refusal.now) }
+    ensures { Adds result line.old.items line.new.items (file_refusal_line refusal.now) }
 {
     push_decimal_after(line, b"dwtool: file: refusal ", file_number(refusal))?;
     push_section(line, refusal)?;

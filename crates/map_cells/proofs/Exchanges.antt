@@ -13,10 +13,10 @@ use Rattle.map_core.specs.History.{value_in, by_any}
 use Rattle.map_core.specs.declared.places.TheConstants.{CURRENT_WORD, COUNT_WORD}
 use Rattle.map_core.specs.Places.{lowest, offset, word_count, key_place, value_place, current_in, count_in, cells_in, IsCell}
 use Rattle.map_core.specs.Machine.{greatest, IsWord, Keeps, state_of, Reaches, IsClosed, IsPublished, IsSettled}
-use Rattle.map_core.specs.Events.{claims, publishes, counts, entry, and_then, Writes, IsStep}
+use Rattle.map_core.specs.Events.{claims, publishes, counts, entry, and_then, WritesWord, IsStep}
 use Rattle.map_core.specs.Calls.{own}
 use Rattle.map_core.specs.Passes.{look, drop_claim, total, PassFacts}
-use Rattle.map_core.specs.Knowing.{rest_of, sees, reads, grabs, places, tallies, settles}
+use Rattle.map_core.specs.Knowing.{all_but_first, sees, reads, grabs, places, tallies, settles}
 use Rattle.map_core.proofs.PlaceLemmas.{key_key, value_value}
 use Rattle.map_core.proofs.WordLemmas.{keeps_at, reaches_on, keeps_value, closed_on, published_on}
 use Rattle.map_core.proofs.HistoryLemmas.{by_append, by_hit}
@@ -56,7 +56,7 @@ module _ (fits : List ℕ → ℕ → ℕ → Type 0) (t : Tag) (slots id : ℕ)
       exchanged n 0 k (Owes s q n (Claimed fits (step slots q 0 k none) (v, c)))
       (λ zero_there.
       let ws : List ℕ = set s.words q k in
-      let wr : Writes p 0 k (state_of l s.words kept.log) (state_of l ws kept.log) = subst (λ (x : ℕ). Writes p x k (state_of l s.words kept.log) (state_of l ws kept.log)) zero_there (writes_word l s.words kept.log kept.log p k low) in
+      let wr : WritesWord p 0 k (state_of l s.words kept.log) (state_of l ws kept.log) = subst (λ (x : ℕ). WritesWord p x k (state_of l s.words kept.log) (state_of l ws kept.log)) zero_there (writes_word l s.words kept.log kept.log p k low) in
       let settle : (h : ℕ) → current_in l s.words ≤ h → h < g → IsSettled l C h k = λ h up below.
       let b = (here.currents settled.from settled.current).1 in
       settled_on l (look v.known) C here.knows h k word.0 (settled.settled h (omega arith) below) in
@@ -153,7 +153,7 @@ module _ (fits : List ℕ → ℕ → ℕ → Type 0) (t : Tag) (slots id : ℕ)
       let ws : List ℕ = set s.words q x in
       let e : Entry = entry v.number k x in
       let log : List Entry = kept.log ++ e ∷ [] in
-      let wr : Writes p 0 x (state_of l s.words kept.log) (state_of l ws log) = subst (λ (y : ℕ). Writes p y x (state_of l s.words kept.log) (state_of l ws log)) zero_there (writes_word l s.words kept.log log p x low) in
+      let wr : WritesWord p 0 x (state_of l s.words kept.log) (state_of l ws log) = subst (λ (y : ℕ). WritesWord p y x (state_of l s.words kept.log) (state_of l ws log)) zero_there (writes_word l s.words kept.log log p x low) in
       let lacks : value_in kept.log k ≡ None = absent_unset l C (fits t.numbers) kept.log so.cells so.history g i k a word key_there zero_there in
       let fit_now : fits t.numbers k x = ⊎_elim
       (λ (p : (h : ℕ) × IsPublished l (look v.known) h k x). absurd (seen_before p.0 p.1 zero_there))
@@ -294,10 +294,10 @@ module _ (fits : List ℕ → ℕ → ℕ → Type 0) (t : Tag) (slots id : ℕ)
             known = refl;
             seen = raised;
             low =
-                let tally : length (by_any v.numbers kept.log) ≡ (v.counted + 1) + length (rest_of v.uncounted) = knows.tally in
+                let tally : length (by_any v.numbers kept.log) ≡ (v.counted + 1) + length (all_but_first v.uncounted) = knows.tally in
                 let a : ℕ = length (by_any v.numbers kept.log) in
                 let b : ℕ = v.counted in
-                let d : ℕ = length (rest_of v.uncounted) in
+                let d : ℕ = length (all_but_first v.uncounted) in
                 let tally' : a ≡ (b + 1) + d = tally in
                 let e : ℕ = total (λ u. u.counted) (set s.views id w) in
                 let r : ℕ = count_in ws in

@@ -14,15 +14,15 @@ use Rattle.map_core.proofs.WordLemmas.{published_on}
 use Rattle.map_core.proofs.CallLemmas.{starts_trans}
 use Rattle.map_core.proofs.TurnLemmas.{drop_own}
 use Rattle.map_cells.specs.Seen.{CellsView, PassView, IsOf}
-use Rattle.map_cells.specs.Steps.{ClosedTo, Steps, Looks, KeySeen, KeyTried, ValueSeen, ValueTried, IsNewest}
-use Rattle.map_cells.specs.Walks.{ClaimsAtMost, Takes}
+use Rattle.map_cells.specs.Steps.{ClosedTo, StepFrame, Looks, KeySeen, KeyTried, ValueSeen, ValueTried, IsNewest}
+use Rattle.map_cells.specs.Walks.{ClaimsAtMost, WalksToClaim}
 use Rattle.map_cells.specs.Puts.{HoldsKey, HoldsOther, IsSeenFrom, MayPut, PutsNew, PutsFound, PutsAt}
 use Rattle.map_cells.specs.declared.walks.Tried.{Tried}
 use Rattle.map_cells.specs.declared.walks.Tried.TheVariants as tried
 use Rattle.map_cells.proofs.WalkLemmas.{steps_then, looks_then, current_last}
 
 -- what was seen published is still
-pub published_more : (v w : View) (h k x : ℕ) → Steps v w → IsPublished v.layout (look v.known) h k x → IsPublished w.layout (look w.known) h k x
+pub published_more : (v w : View) (h k x : ℕ) → StepFrame v w → IsPublished v.layout (look v.known) h k x → IsPublished w.layout (look w.known) h k x
 published_more v w h k x s p = subst (λ (l : Layout). IsPublished l (look w.known) h k x) (sym s.layout) (published_on v.layout (look v.known) (look w.known) s.seen h k x p)
 
 -- a pair that is seen published is in the front
@@ -44,20 +44,20 @@ may_put fits c p g k x of facts within =
 
 module _ (fits : List ℕ → ℕ → ℕ → Type 0) where
   -- an empty cell was claimed
-  pub takes_won : (g i k : ℕ) (v u w : View) → KeySeen fits g i 0 v u → KeyTried fits g i k 0 u w → Takes fits g i v w
+  pub takes_won : (g i k : ℕ) (v u w : View) → KeySeen fits g i 0 v u → KeyTried fits g i k 0 u w → WalksToClaim fits g i v w
   takes_won g i k v u w a b = record { looks = looks_then v u w a.looks b.looks; facts = b.facts; claim = inr (b.won refl).0; uncounted = b.uncounted ∙ a.uncounted; counted = b.counted ∙ a.counted }
 
   -- another pass was first
-  pub takes_lost : (g i k n : ℕ) (v u w : View) → v.claim ≡ None → 0 < n → KeySeen fits g i 0 v u → KeyTried fits g i k n u w → Takes fits g i v w
+  pub takes_lost : (g i k n : ℕ) (v u w : View) → v.claim ≡ None → 0 < n → KeySeen fits g i 0 v u → KeyTried fits g i k n u w → WalksToClaim fits g i v w
   takes_lost g i k n v u w free pos a b =
       record { looks = looks_then v u w a.looks b.looks; facts = b.facts; claim = inl ((b.lost (λ e. omega arith)).0 ∙ (a.claim ∙ free)); uncounted = b.uncounted ∙ a.uncounted; counted = b.counted ∙ a.counted }
 
   -- a key stood in the cell
-  pub takes_seen : (g i n : ℕ) (v u : View) → v.claim ≡ None → KeySeen fits g i n v u → Takes fits g i v u
+  pub takes_seen : (g i n : ℕ) (v u : View) → v.claim ≡ None → KeySeen fits g i n v u → WalksToClaim fits g i v u
   takes_seen g i n v u free a = record { looks = a.looks; facts = a.facts; claim = inl (a.claim ∙ free); uncounted = a.uncounted; counted = a.counted }
 
   -- and its value was unset
-  pub takes_unset : (g i : ℕ) (v u w : View) → Takes fits g i v u → ValueSeen fits g i 0 u w → Takes fits g i v w
+  pub takes_unset : (g i : ℕ) (v u w : View) → WalksToClaim fits g i v u → ValueSeen fits g i 0 u w → WalksToClaim fits g i v w
   takes_unset g i v u w a b =
       record {
         looks = looks_then v u w a.looks b.looks;
@@ -72,21 +72,21 @@ module _ (fits : List ℕ → ℕ → ℕ → Type 0) where
   value_frees g i n u w claim pos b = b.claim ∙ (ap (λ (t : Bool). if t then u.claim else drop_claim u.claim g i) (ne_eqb n 0 (λ e. omega arith)) ∙ drop_own u.claim g i claim)
 
   -- the cell's key, by the pass's new sizes
-  pub holds_key : (g i k n : ℕ) (u w : View) → Steps u w → look w.known (key_place u.layout g i) ≡ n → n ≡ k → HoldsKey g i k w
+  pub holds_key : (g i k n : ℕ) (u w : View) → StepFrame u w → look w.known (key_place u.layout g i) ≡ n → n ≡ k → HoldsKey g i k w
   holds_key g i k n u w s key is = ap (λ (l : Layout). look w.known (key_place l g i)) s.layout ∙ (key ∙ is)
 
-  pub holds_other : (g i k n : ℕ) (u w : View) → Steps u w → look w.known (key_place u.layout g i) ≡ n → IsWord n → n ≢ k → HoldsOther g i k w
+  pub holds_other : (g i k n : ℕ) (u w : View) → StepFrame u w → look w.known (key_place u.layout g i) ≡ n → IsWord n → n ≢ k → HoldsOther g i k w
   holds_other g i k n u w s key word ne =
       let there : look w.known (key_place w.layout g i) ≡ n = ap (λ (l : Layout). look w.known (key_place l g i)) s.layout ∙ key in
       record { key = subst IsWord (sym there) word; other = λ e. ne (sym there ∙ e) }
 
-  pub key_stays : (g i k : ℕ) (u w : View) → IsWord k → Steps u w → HoldsKey g i k u → HoldsKey g i k w
+  pub key_stays : (g i k : ℕ) (u w : View) → IsWord k → StepFrame u w → HoldsKey g i k u → HoldsKey g i k w
   key_stays g i k u w word s key =
       holds_key g i k (look u.known (key_place u.layout g i)) u w s (s.seen (key_place u.layout g i) (subst (λ (n : ℕ). 0 < n) (sym key) word.0)) key
 
   module _ (g i k : ℕ) (u w : View) (here : IsCell u.layout g i) (word : IsWord k) (key : HoldsKey g i k u) where
     -- the pair is seen published in this cell
-    pub seen_here : (x : ℕ) → IsWord x → Steps u w → look w.known (value_place u.layout g i) ≡ x → IsSeenFrom g k x w
+    pub seen_here : (x : ℕ) → IsWord x → StepFrame u w → look w.known (value_place u.layout g i) ≡ x → IsSeenFrom g k x w
     seen_here x value s there =
         record {
           generation = g;

@@ -14,7 +14,7 @@ use Rattle.map_cells.specs.Seen.{CellsView, PassView, IsOf, Continues}
 use Rattle.map_cells.specs.FollowLaws.{starts_same}
 use Rattle.map_cells.specs.Passing.{IsJoined}
 use Rattle.map_cells.specs.PassFields.{FieldsAgree}
-use Rattle.map_cells.specs.Steps.{Steps}
+use Rattle.map_cells.specs.Steps.{StepFrame}
 use Rattle.map_cells.proofs.Allowed.{about}
 
 -- the pass's seat, with the view v, is of the words that the cells share, whose rule was told the key
@@ -49,11 +49,11 @@ pub cell_there : (v outer : Layout) (g i : ℕ) → v ≡ outer → IsCell outer
 cell_there v outer g i same cell = subst (λ (l : Layout). IsCell l g i) (sym same) cell
 
 -- a step leaves the pass with its table
-pub of_steps : (c : CellsView) (p q : PassView) → IsOf c p → q.table ≡ p.table → Steps p.knows q.knows → IsOf c q
+pub of_steps : (c : CellsView) (p q : PassView) → IsOf c p → q.table ≡ p.table → StepFrame p.knows q.knows → IsOf c q
 of_steps c p q of table s = record { table = table ∙ of.table; layout = s.layout ∙ of.layout; tag = s.tag ∙ of.tag }
 
 -- the fields of a pass, after a step that counts nothing
-pub fields_after : (fits : List ℕ → ℕ → ℕ → Type 0) (me me' : Me (Unit {0}) View) (i left own most : ℕ) → FieldsAgree fits me i left own most → me'.1 ≡ me.1 → Steps me.0 me'.0
+pub fields_after : (fits : List ℕ → ℕ → ℕ → Type 0) (me me' : Me (Unit {0}) View) (i left own most : ℕ) → FieldsAgree fits me i left own most → me'.1 ≡ me.1 → StepFrame me.0 me'.0
     → me'.0.counted ≡ me.0.counted → me'.0.count_seen ≡ me.0.count_seen → PassFacts fits me'.0 → FieldsAgree fits me' i left own most
 fields_after fits me me' i left own most agree slots s counted count facts =
     record {

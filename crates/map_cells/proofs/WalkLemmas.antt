@@ -18,10 +18,10 @@ use Rattle.map_core.proofs.WordLemmas.{passed_on, reaches_on}
 use Rattle.map_core.proofs.HistoryLemmas.{by_append}
 use Rattle.map_core.proofs.CallLemmas.{starts_same, starts_trans}
 use Rattle.map_core.proofs.SizeLemmas.{cells_pos}
-use Rattle.map_cells.specs.Steps.{ClosedTo, SettledTo, Steps, Looks, KeySeen, ValueSeen}
+use Rattle.map_cells.specs.Steps.{ClosedTo, SettledTo, StepFrame, Looks, KeySeen, ValueSeen}
 use Rattle.map_cells.specs.Walks.{Walks}
 
-pub steps_then : (v u w : View) → Steps v u → Steps u w → Steps v w
+pub steps_then : (v u w : View) → StepFrame v u → StepFrame u w → StepFrame v w
 steps_then v u w a b =
     record {
       layout = b.layout ∙ a.layout;
@@ -103,10 +103,10 @@ module _ (fits : List ℕ → ℕ → ℕ → Type 0) where
       if_none false = refl
 
 -- what was reached stays so as more is seen
-pub reaches_more : (v w : View) (g i k : ℕ) → Steps v w → Reaches v.layout (look v.known) g i k → Reaches w.layout (look w.known) g i k
+pub reaches_more : (v w : View) (g i k : ℕ) → StepFrame v w → Reaches v.layout (look v.known) g i k → Reaches w.layout (look w.known) g i k
 reaches_more v w g i k s r = subst (λ (x : Layout). Reaches x (look w.known) g i k) (sym s.layout) (reaches_on v.layout (look v.known) (look w.known) s.seen g i k r)
 
-pub passed_more : (v w : View) (g k d : ℕ) → Steps v w → Passed v.layout (look v.known) g k d → Passed w.layout (look w.known) g k d
+pub passed_more : (v w : View) (g k d : ℕ) → StepFrame v w → Passed v.layout (look v.known) g k d → Passed w.layout (look w.known) g k d
 passed_more v w g k d s p = subst (λ (x : Layout). Passed x (look w.known) g k d) (sym s.layout) (passed_on v.layout (look v.known) (look w.known) s.seen g k d p)
 
 -- for now a generation that was seen current is the last, and nothing lies between
@@ -182,7 +182,7 @@ pub record Walked (fits : List ℕ → ℕ → ℕ → Type 0) (g k d i : ℕ) (
   pub index : i ≡ spot g k d
   pub passed : Passed w.layout (look w.known) g k d
 
-pub closed_more : (v w : View) (g k : ℕ) → Steps v w → ClosedTo v g k → 0 < k → ClosedTo w g k
+pub closed_more : (v w : View) (g k : ℕ) → StepFrame v w → ClosedTo v g k → 0 < k → ClosedTo w g k
 closed_more v w g k s c pos =
     record {
       from = c.from;

@@ -6,7 +6,7 @@ use Rattle.map_core.specs.Sizes.{cells_of}
 use Rattle.map_core.specs.declared.places.TheConstants.{CURRENT_WORD, COUNT_WORD, FIRST_CELL_WORD}
 use Rattle.map_core.specs.Places.{lowest, base, offset, word_count, key_place, value_place, cells_in, Within, IsCell}
 use Rattle.map_core.specs.Machine.{state_of}
-use Rattle.map_core.specs.Events.{Writes}
+use Rattle.map_core.specs.Events.{WritesWord}
 use Rattle.map_core.proofs.SizeLemmas.{last_small, cells_small}
 use Rattle.map_core.proofs.PlaceLemmas.{one_generation, place_within, last_base}
 
@@ -63,7 +63,7 @@ unfolding offset
 count_apart l p e = let e' : 16 ≡ p + 32 = e in omega arith
 
 -- one cell word is written
-pub writes_word : (l : Layout) (ws : List ℕ) (log log' : List Entry) (p x : ℕ) → p + offset l < length ws → Writes p (slice_index ws (p + offset l)) x (state_of l ws log) (state_of l (set ws (p + offset l) x) log')
+pub writes_word : (l : Layout) (ws : List ℕ) (log log' : List Entry) (p x : ℕ) → p + offset l < length ws → WritesWord p (slice_index ws (p + offset l)) x (state_of l ws log) (state_of l (set ws (p + offset l) x) log')
 writes_word l ws log log' p x low =
     record {
       was = refl;

@@ -6,7 +6,7 @@ use Rattle.map_core.specs.History.{value_in, is_in}
 use Rattle.map_core.specs.Places.{key_place}
 use Rattle.map_core.specs.Machine.{IsWord, Passed, IsPublished}
 use Rattle.map_core.specs.Passes.{look, PassFacts}
-use Rattle.map_cells.specs.Steps.{Steps, IsPlaced, IsKept}
+use Rattle.map_cells.specs.Steps.{StepFrame, IsPlaced, IsKept}
 use Rattle.map_cells.specs.Walks.{Walks}
 use Rattle.map_cells.specs.declared.walks.Put.{Put}
 use Rattle.map_cells.specs.declared.walks.Put.TheVariants as put
@@ -49,7 +49,7 @@ module _ (fits : List ℕ → ℕ → ℕ → Type 0) where
 
   -- this call set the value word: of a new entry, not counted yet, or of a pair that was seen published
   pub record PutsNew (g k x : ℕ) (v w : View) : Type 0 where
-    pub steps : Steps v w
+    pub steps : StepFrame v w
     pub facts : PassFacts fits w
     pub claim : w.claim ≡ None
     pub counted : w.counted ≡ v.counted

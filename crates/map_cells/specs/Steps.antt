@@ -8,7 +8,7 @@ use Rattle.map_core.specs.Machine.{greatest, IsWord, Reaches, IsClosed, IsPublis
 use Rattle.map_core.specs.Events.{claims, publishes, counts, entry}
 use Rattle.map_core.specs.Calls.{own}
 use Rattle.map_core.specs.Passes.{look, cell, drop_claim, PassFacts}
-use Rattle.map_core.specs.Knowing.{rest_of}
+use Rattle.map_core.specs.Knowing.{all_but_first}
 use Rattle.map_cells.specs.Whole.{MakesStep}
 
 -- the key is seen closed in each generation from a current one up to below g
@@ -26,7 +26,7 @@ pub record SettledTo (v : View) (g k : ℕ) : Type 0 where
   pub settled : (h : ℕ) → from ≤ h → h < g → IsSettled v.layout (look v.known) h k
 
 -- what every step keeps, and what it may only add to
-pub record Steps (v w : View) : Type 0 where
+pub record StepFrame (v w : View) : Type 0 where
   pub layout : w.layout ≡ v.layout
   pub tag : w.tag ≡ v.tag
   pub number : w.number ≡ v.number
@@ -40,7 +40,7 @@ pub record Steps (v w : View) : Type 0 where
 
 -- a step that adds no entry: what follows the old front is by others
 pub record Looks (v w : View) : Type 0 where
-  pub steps : Steps v w
+  pub steps : StepFrame v w
   pub mine : StartsWithOwn v.numbers v.front w.front
   pub own : own w ≡ own v
 
@@ -131,7 +131,7 @@ module _ (fits : List ℕ → ℕ → ℕ → Type 0) where
     pub word : look w.known (value_place v.layout g i) ≡ n
 
   pub record ValueTried (g i k x n : ℕ) (v w : View) : Type 0 where
-    pub steps : Steps v w
+    pub steps : StepFrame v w
     pub facts : PassFacts fits w
     pub counted : w.counted ≡ v.counted
     pub same_count : w.count_seen ≡ v.count_seen
@@ -153,7 +153,7 @@ module _ (fits : List ℕ → ℕ → ℕ → Type 0) where
     pub looks : Looks v w
     pub facts : PassFacts fits w
     pub claim : w.claim ≡ v.claim
-    pub uncounted : w.uncounted ≡ rest_of v.uncounted
+    pub uncounted : w.uncounted ≡ all_but_first v.uncounted
     pub counted : w.counted ≡ v.counted + 1
     pub known : w.known ≡ v.known
     pub seen : w.count_seen ≡ n

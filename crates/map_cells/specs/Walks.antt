@@ -18,7 +18,7 @@ module _ (fits : List ℕ → ℕ → ℕ → Type 0) where
     pub counted : w.counted ≡ v.counted
 
   -- the same, but the cell may have become the pass's open claim
-  pub record Takes (g i : ℕ) (v w : View) : Type 0 where
+  pub record WalksToClaim (g i : ℕ) (v w : View) : Type 0 where
     pub looks : Looks v w
     pub facts : PassFacts fits w
     pub claim : ClaimsAtMost g i w

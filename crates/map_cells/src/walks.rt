@@ -6,7 +6,7 @@ ghost use Rattle.map_core.specs.Machine.{IsWord, Reaches};
 ghost use Rattle.map_core.specs.Passes.{look};
 ghost use Rattle.map_cells.specs.Seen.{IsOf};
 ghost use Rattle.map_cells.specs.Steps.{ClosedTo};
-ghost use Rattle.map_cells.specs.Walks.{Walks, ClaimsAtMost, Takes};
+ghost use Rattle.map_cells.specs.Walks.{Walks, ClaimsAtMost, WalksToClaim};
 ghost use Rattle.map_cells.specs.Puts.{HoldsKey, SeeksAt, TakesAt, MayPut, PutsAt, IsPut};
 
 use crate::about::Facts;
@@ -89,7 +89,7 @@ impl<F: Facts> Cells<F> {
             cell.generation cell.index key }
         requires closed { ClosedTo pass.old.knows cell.generation key }
         ensures of { IsOf self.now pass.new }
-        ensures takes { Takes F.fits cell.generation cell.index pass.old.knows pass.new.knows }
+        ensures takes { WalksToClaim F.fits cell.generation cell.index pass.old.knows pass.new.knows }
         ensures taken { TakesAt cell.generation cell.index key pass.new.knows result }
     {
         match self.key_at(pass, cell) {

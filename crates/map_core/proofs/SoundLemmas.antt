@@ -8,7 +8,7 @@ use Rattle.map_core.specs.Sizes.{cells_of}
 use Rattle.map_core.specs.History.{value_in}
 use Rattle.map_core.specs.Places.{key_place, value_place, finish_place, Within, IsCell, IsBlock}
 use Rattle.map_core.specs.Machine.{greatest, IsWord, Keeps, Only, Reaches, IsPublished, IsMoved, OneCellPerKey, ClosedBelow, MovedBelow, FinishedBlocks, OneHistory, State, Sound}
-use Rattle.map_core.specs.Events.{Event, claims, publishes, seals_key, seals_value, counts, takes, finishes, switches, entry, Writes, Rests, IsStep, IsStart, Lawful, at_start, and_then}
+use Rattle.map_core.specs.Events.{Event, claims, publishes, seals_key, seals_value, counts, takes, finishes, switches, entry, WritesWord, Rests, IsStep, IsStart, Lawful, at_start, and_then}
 use Rattle.map_core.proofs.SizeLemmas.{blocks_pos}
 use Rattle.map_core.proofs.PlaceLemmas.{one_generation, last_within, lowest_within, key_finish, value_finish}
 use Rattle.map_core.proofs.WordLemmas.{keeps_at, keeps_value, done_on, published_on}
@@ -89,7 +89,7 @@ module _ (l : Layout) (fits : ℕ → ℕ → Type 0) where
         history = subst (λ (log : List Entry). OneHistory l t.cells fits log) (sym r.history) (history_stays l s.cells t.cells keeps fits s.history same so.history);
       }
 
-  sound_key : (s t : State) (g i w : ℕ) → IsCell l g i → Writes (key_place l g i) 0 w s t → t.history ≡ s.history → (IsWord w → Reaches l s.cells g i w) → (g ≡ l.last → w < greatest) → Sound l fits s → Sound l fits t
+  sound_key : (s t : State) (g i w : ℕ) → IsCell l g i → WritesWord (key_place l g i) 0 w s t → t.history ≡ s.history → (IsWord w → Reaches l s.cells g i w) → (g ≡ l.last → w < greatest) → Sound l fits s → Sound l fits t
   sound_key s t g i w a wr log walk open_there so =
       let keeps = keeps_at (key_place l g i) s.cells t.cells wr.was wr.only in
       record {
@@ -100,7 +100,7 @@ module _ (l : Layout) (fits : ℕ → ℕ → Type 0) where
         history = subst (λ (x : List Entry). OneHistory l t.cells fits x) (sym log) (key_history l s.cells t.cells g i w a wr.was wr.is wr.only fits s.history so.cells so.history);
       }
 
-  sound_value : (s t : State) (g i w : ℕ) → IsCell l g i → IsWord (s.cells (key_place l g i)) → Writes (value_place l g i) 0 w s t → OneHistory l t.cells fits t.history → (g ≡ l.last → w < greatest) → Sound l fits s → Sound l fits t
+  sound_value : (s t : State) (g i w : ℕ) → IsCell l g i → IsWord (s.cells (key_place l g i)) → WritesWord (value_place l g i) 0 w s t → OneHistory l t.cells fits t.history → (g ≡ l.last → w < greatest) → Sound l fits s → Sound l fits t
   sound_value s t g i w a key wr history open_there so =
       let keeps = keeps_at (value_place l g i) s.cells t.cells wr.was wr.only in
       record {

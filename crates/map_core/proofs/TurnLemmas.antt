@@ -9,9 +9,9 @@ use Rattle.map_core.specs.declared.view.View.{View}
 use Rattle.map_core.specs.History.{is_in, by_any, StartsWithOwn}
 use Rattle.map_core.specs.Places.{key_place, value_place, IsCell}
 use Rattle.map_core.specs.Machine.{IsWord, Keeps, State, IsUnset}
-use Rattle.map_core.specs.Events.{entry, Writes}
+use Rattle.map_core.specs.Events.{entry, WritesWord}
 use Rattle.map_core.specs.Passes.{look, cell, drop_claim, all_numbers, placed, AllBy, PassAt, Turn}
-use Rattle.map_core.specs.Knowing.{rest_of, sees, reads, grabs, places, counts_seen, tallies, settles}
+use Rattle.map_core.specs.Knowing.{all_but_first, sees, reads, grabs, places, counts_seen, tallies, settles}
 use Rattle.map_core.proofs.PlaceLemmas.{key_key, value_value, key_value, value_key}
 use Rattle.map_core.proofs.WordLemmas.{keeps_at}
 use Rattle.map_core.proofs.HistoryLemmas.{by_hit, by_append}
@@ -137,7 +137,7 @@ module _ (l : Layout) (mark : List ℕ) (s : State) (i : ℕ) (v : View) (live :
       (claim_cases v.claim h k))
 
   -- a claim that was won
-  pub grabs_turn : (t : State) (g j k : ℕ) → IsCell l g j → IsWord k → v.claim ≡ None → Writes (key_place l g j) 0 k s t → t.history ≡ s.history → Turn l mark s t i v (grabs l v t.history g j k)
+  pub grabs_turn : (t : State) (g j k : ℕ) → IsCell l g j → IsWord k → v.claim ≡ None → WritesWord (key_place l g j) 0 k s t → t.history ≡ s.history → Turn l mark s t i v (grabs l v t.history g j k)
   grabs_turn t g j k a word free wr log =
       let w : View = grabs l v t.history g j k in
       let keeps : Keeps s.cells t.cells = keeps_at (key_place l g j) s.cells t.cells wr.was wr.only in
@@ -179,7 +179,7 @@ module _ (l : Layout) (mark : List ℕ) (s : State) (i : ℕ) (v : View) (live :
       }
 
   -- a publish that was won, of a new entry
-  pub places_turn : (t : State) (g j k x : ℕ) → IsCell l g j → 0 < x → v.beside_numbers ≡ [] → Writes (value_place l g j) 0 x s t → t.history ≡ s.history ++ entry v.number k x ∷ []
+  pub places_turn : (t : State) (g j k x : ℕ) → IsCell l g j → 0 < x → v.beside_numbers ≡ [] → WritesWord (value_place l g j) 0 x s t → t.history ≡ s.history ++ entry v.number k x ∷ []
       → Turn l mark s t i v (places l v t.history g j x (entry v.number k x))
   places_turn t g j k x a pos alone wr log =
       let e : Entry = entry v.number k x in
@@ -252,7 +252,7 @@ module _ (l : Layout) (mark : List ℕ) (s : State) (i : ℕ) (v : View) (live :
   tallies_turn t cells log count current some_left =
       let w : View = tallies v t.history t.count in
       let keeps : Keeps s.cells t.cells = λ q h. cells q in
-      let n : ℕ = length (rest_of v.uncounted) in
+      let n : ℕ = length (all_but_first v.uncounted) in
       let m : ℕ = length v.uncounted in
       let one_less : n + 1 ≡ m = one_counted v.uncounted some_left in
       let z : ℕ = v.counted in
@@ -292,7 +292,7 @@ module _ (l : Layout) (mark : List ℕ) (s : State) (i : ℕ) (v : View) (live :
             (claim_cases v.claim g j);
       }
     where
-      one_counted : (es : List Entry) → 0 < length es → length (rest_of es) + 1 ≡ length es
+      one_counted : (es : List Entry) → 0 < length es → length (all_but_first es) + 1 ≡ length es
       one_counted [] h = absurd (omega arith)
       one_counted (e ∷ es) h = omega arith
 

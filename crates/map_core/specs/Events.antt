@@ -21,7 +21,7 @@ abbrev pub entry : ℕ → ℕ → ℕ → Entry
 entry who key value = record { who = who; key = key; value = value }
 
 -- the word at p changes from old to new. Of the rest the history alone may change
-pub record Writes (p old new : ℕ) (s t : State) : Type 0 where
+pub record WritesWord (p old new : ℕ) (s t : State) : Type 0 where
   pub was : s.cells p ≡ old
   pub is : t.cells p ≡ new
   pub only : Only p s.cells t.cells
@@ -35,8 +35,8 @@ pub record Rests (s t : State) : Type 0 where
   pub history : t.history ≡ s.history
 
 -- an entry is added, or the key has this value already
-abbrev pub Adds : (ℕ → ℕ → Type 0) → ℕ → ℕ → ℕ → List Entry → List Entry → Type 0
-Adds fits who k v log new =
+abbrev pub AddsEntry : (ℕ → ℕ → Type 0) → ℕ → ℕ → ℕ → List Entry → List Entry → Type 0
+AddsEntry fits who k v log new =
     ((value_in log k ≡ Some v) × (new ≡ log))
     ⊎ ((value_in log k ≡ None) × fits k v × (new ≡ log ++ entry who k v ∷ []))
 
@@ -48,7 +48,7 @@ module _ (l : Layout) (fits : ℕ → ℕ → Type 0) where
     pub key : IsWord k
     pub reached : Reaches l s.cells g i k
     pub settled : (h : ℕ) → s.current ≤ h → h < g → IsSettled l s.cells h k
-    pub word : Writes (key_place l g i) 0 k s t
+    pub word : WritesWord (key_place l g i) 0 k s t
     pub history : t.history ≡ s.history
 
   -- an unset value word becomes v, where v is the key's value, or the key has none and the pair fits
@@ -57,14 +57,14 @@ module _ (l : Layout) (fits : ℕ → ℕ → Type 0) where
     pub key : IsWord k
     pub value : IsWord v
     pub stands : s.cells (key_place l g i) ≡ k
-    pub word : Writes (value_place l g i) 0 v s t
-    pub adds : Adds fits who k v s.history t.history
+    pub word : WritesWord (value_place l g i) 0 v s t
+    pub adds : AddsEntry fits who k v s.history t.history
 
   -- an empty key word is sealed
   pub record SealKeyStep (g i : ℕ) (s t : State) : Type 0 where
     pub cell : IsCell l g i
     pub below : g < l.last
-    pub word : Writes (key_place l g i) 0 greatest s t
+    pub word : WritesWord (key_place l g i) 0 greatest s t
     pub history : t.history ≡ s.history
 
   -- an unset value word is closed, where the cell's key is published in no other generation
@@ -73,7 +73,7 @@ module _ (l : Layout) (fits : ℕ → ℕ → Type 0) where
     pub below : g < l.last
     pub key : IsWord (s.cells (key_place l g i))
     pub alone : (h v : ℕ) → h ≢ g → ¬ IsPublished l s.cells h (s.cells (key_place l g i)) v
-    pub word : Writes (value_place l g i) 0 greatest s t
+    pub word : WritesWord (value_place l g i) 0 greatest s t
     pub history : t.history ≡ s.history
 
   -- the count rises by 1
@@ -96,7 +96,7 @@ module _ (l : Layout) (fits : ℕ → ℕ → Type 0) where
   pub record FinishStep (g b : ℕ) (s t : State) : Type 0 where
     pub block : IsBlock l g b
     pub moved : IsMoved l s.cells g b
-    pub word : Writes (finish_place l g b) 0 1 s t
+    pub word : WritesWord (finish_place l g b) 0 1 s t
     pub history : t.history ≡ s.history
 
   -- the next generation becomes current, where all blocks of the current one are finished and the

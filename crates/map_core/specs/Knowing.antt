@@ -8,9 +8,9 @@ use Rattle.map_core.specs.declared.view.View.{View}
 use Rattle.map_core.specs.Places.{lowest, key_place, value_place}
 use Rattle.map_core.specs.Passes.{cell, drop_claim, all_numbers}
 
-abbrev pub rest_of : List Entry → List Entry
-rest_of [] = []
-rest_of (e ∷ es) = es
+abbrev pub all_but_first : List Entry → List Entry
+all_but_first [] = []
+all_but_first (e ∷ es) = es
 
 -- the first pass of a table at the start
 abbrev pub first_view : Layout → List ℕ → View
@@ -60,7 +60,7 @@ counts_seen v log n = record v { front = log; count_seen = n }
 
 -- one entry was counted, and the count became n
 abbrev pub tallies : View → List Entry → ℕ → View
-tallies v log n = record v { front = log; counted = v.counted + 1; uncounted = rest_of v.uncounted; count_seen = n }
+tallies v log n = record v { front = log; counted = v.counted + 1; uncounted = all_but_first v.uncounted; count_seen = n }
 
 -- the two parts of a split
 abbrev pub halved : View → View

@@ -8,11 +8,11 @@ use Rattle.map_core.specs.Places.{lowest}
 use Rattle.map_core.specs.Events.{entry}
 use Rattle.map_core.specs.Calls.{IsPoint, FindsAt, PlacesAt, FoundAt, FullAt}
 use Rattle.map_core.specs.Passes.{AtRest, PassFacts}
-use Rattle.map_core.specs.Knowing.{rest_of}
+use Rattle.map_core.specs.Knowing.{all_but_first}
 use Rattle.map_core.proofs.HistoryLemmas.{value_new, fits_in}
 use Rattle.map_core.proofs.CallLemmas.{own_stays, map_get, starts_same, starts_trans, value_longer}
 use Rattle.map_cells.specs.Seen.{CellsView, PassView, Follows}
-use Rattle.map_cells.specs.Steps.{Steps, CountSeen, IsPlaced, CountRaised}
+use Rattle.map_cells.specs.Steps.{StepFrame, CountSeen, IsPlaced, CountRaised}
 use Rattle.map_cells.specs.Walks.{Walks}
 use Rattle.map_cells.specs.Puts.{PutsNew}
 use Rattle.map_cells.specs.Passing.{BeginsCells, IsJoined}
@@ -110,10 +110,10 @@ module _ (fits : List ℕ → ℕ → ℕ → Type 0) where
 
   -- an entry was placed and then counted
   module _ (t : List ℕ) (g k x m : ℕ) (v u p w : View) (tag : v.tag ≡ t) (fit : fits t k x) (current : is_in g u.currents ≡ true) (seen : Walks fits v u) (put : PutsNew fits g k x u p) (raised : CountRaised fits m p w) where
-    steps : Steps v p
+    steps : StepFrame v p
     steps = steps_then v u p seen.looks.steps put.steps
 
-    all : Steps v w
+    all : StepFrame v w
     all = steps_then v p w steps raised.looks.steps
 
     pub fresh : IsPlaced fits k x u p
@@ -154,7 +154,7 @@ module _ (fits : List ℕ → ℕ → ℕ → Type 0) where
     placed_rest none =
         record {
           claim = raised.claim ∙ put.claim;
-          uncounted = raised.uncounted ∙ ap rest_of (fresh.uncounted ∙ (λ i. (seen.uncounted ∙ none) i ++ entry u.number k x ∷ []));
+          uncounted = raised.uncounted ∙ ap all_but_first (fresh.uncounted ∙ (λ i. (seen.uncounted ∙ none) i ++ entry u.number k x ∷ []));
         }
 
     pub placed_follow : (a b : PassView) → a.knows ≡ v → b.knows ≡ w → b.table ≡ a.table → Follows a b

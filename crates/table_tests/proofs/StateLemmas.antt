@@ -9,10 +9,10 @@ use Rattle.map_core.specs.Places.{key_place}
 use Rattle.map_core.specs.Machine.{Reaches}
 use Rattle.map_core.specs.Passes.{look, PassFacts}
 use Rattle.map_core.specs.Events.{entry}
-use Rattle.map_core.specs.Knowing.{rest_of}
+use Rattle.map_core.specs.Knowing.{all_but_first}
 use Rattle.map_core.proofs.TurnLemmas.{drop_own}
 use Rattle.map_cells.specs.Seen.{CellsView, PassView, IsOf}
-use Rattle.map_cells.specs.Steps.{Steps, ClosedTo, SettledTo, KeyTried, ValueTried, CountRaised}
+use Rattle.map_cells.specs.Steps.{StepFrame, ClosedTo, SettledTo, KeyTried, ValueTried, CountRaised}
 use Rattle.map_cells.specs.Walks.{Walks}
 use Rattle.map_cells.specs.Puts.{PutsNew}
 use Rattle.map_cells.specs.Passing.{BeginsCells}
@@ -30,14 +30,14 @@ is_small l mark c p two h =
     }
 
 -- a step keeps the numbers
-pub same_numbers : (p q : PassView) → Steps p.knows q.knows → SameNumbers p q
+pub same_numbers : (p q : PassView) → StepFrame p.knows q.knows → SameNumbers p q
 same_numbers p q s = record { number = s.number; spare = s.spare }
 
 -- a layout in place of another, as an equation of calls gives it
 pub reaches_of : (c : CellsView) (p : PassView) (k : ℕ) (at : Cell) → IsOf c p → IsHome c.layout k at → Reaches p.knows.layout (look p.knows.known) at.generation at.index k
 reaches_of c p k at of_table home = subst (λ (l : Layout). Reaches l (look p.knows.known) at.generation at.index k) (sym of_table.layout) (home.reached (look p.knows.known))
 
-rest_of_one : (es : List Entry) → length es ≡ 1 → rest_of es ≡ []
+rest_of_one : (es : List Entry) → length es ≡ 1 → all_but_first es ≡ []
 rest_of_one [] one = absurd (omega arith)
 rest_of_one (e ∷ []) one = refl
 rest_of_one (e ∷ f ∷ es) one = absurd (omega arith)

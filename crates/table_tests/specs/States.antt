@@ -20,13 +20,13 @@ pub record Idle (c : CellsView) (p : PassView) : Type 0 where
   pub rest : AtRest p.knows
 
 -- no cell but this one is claimed by the pass
-abbrev pub ClaimsAtMost : View → Cell → Type 0
-ClaimsAtMost v c = (v.claim ≡ None) ⊎ (v.claim ≡ Some (cell c.generation c.index))
+abbrev pub ClaimsOnly : View → Cell → Type 0
+ClaimsOnly v c = (v.claim ≡ None) ⊎ (v.claim ≡ Some (cell c.generation c.index))
 
 -- the pass has seen the key in the cell, which it may have claimed
 pub record SawKey (c : CellsView) (p : PassView) (at : Cell) (k : ℕ) : Type 0 where
   pub of_table : IsOf c p
-  pub claim : ClaimsAtMost p.knows at
+  pub claim : ClaimsOnly p.knows at
   pub uncounted : p.knows.uncounted ≡ []
   pub seen : look p.knows.known (key_place p.knows.layout at.generation at.index) ≡ k
 

@@ -14,7 +14,7 @@ const EACH: usize = 70;
 
 /// What a worker learned: of each of its keys the value in the table.
 #[derive(Drop)]
-struct Answers {
+struct WorkerValues {
     pass: Pass<AnyPair>,
     values: [u64; EACH],
 }
@@ -53,7 +53,7 @@ fn offer_all(
     arrived: &AtomicU64,
     mut pass: Pass<AnyPair>,
     worker: u64,
-) -> Answers
+) -> WorkerValues
     requires idle { Idle table.now pass }
     requires worker { worker < 4 }
     ensures idle { Idle table.now result.pass }
@@ -71,7 +71,7 @@ fn offer_all(
             Err(Full) => 0,
         };
     }
-    Answers { pass, values }
+    WorkerValues { pass, values }
 }
 
 // Two workers in two threads: this one and the next.
@@ -82,7 +82,7 @@ fn run_two_workers<R: Threads>(
     one: Pass<AnyPair>,
     other: Pass<AnyPair>,
     worker: u64,
-) -> (Answers, Answers)
+) -> (WorkerValues, WorkerValues)
     requires one { Idle table.now one }
     requires other { Idle table.now other }
     requires worker { worker < 3 }
@@ -91,11 +91,11 @@ fn run_two_workers<R: Threads>(
 {
     join(
         rt,
-        move || -> Answers
+        move || -> WorkerValues
             requires { Idle table.now one × (worker < 3) }
             ensures { Idle table.entry.now result.pass × SameNumbers one result.pass }
         { offer_all(table, arrived, one, worker) },
-        move || -> Answers
+        move || -> WorkerValues
             requires { Idle table.now other × (worker < 3) }
             ensures { Idle table.entry.now result.pass × SameNumbers other result.pass }
         { offer_all(table, arrived, other, worker + 1) },
@@ -111,7 +111,7 @@ fn run_four_workers<R: Threads + Sync>(
     b: Pass<AnyPair>,
     c: Pass<AnyPair>,
     d: Pass<AnyPair>,
-) -> ((Answers, Answers), (Answers, Answers))
+) -> ((WorkerValues, WorkerValues), (WorkerValues, WorkerValues))
     requires a { Idle table.now a }
     requires b { Idle table.now b }
     requires c { Idle table.now c }
@@ -123,12 +123,12 @@ fn run_four_workers<R: Threads + Sync>(
 {
     join(
         rt,
-        move || -> (Answers, Answers)
+        move || -> (WorkerValues, WorkerValues)
             requires { Idle table.now a × Idle table.now b }
             ensures { Idle table.entry.now result.0.pass × SameNumbers a result.0.pass
                 × Idle table.entry.now result.1.pass × SameNumbers b result.1.pass }
         { run_two_workers(rt, table, arrived, a, b, 0) },
-        move || -> (Answers, Answers)
+        move || -> (WorkerValues, WorkerValues)
             requires { Idle table.now c × Idle table.now d }
             ensures { Idle table.entry.now result.0.pass × SameNumbers c result.0.pass
                 × Idle table.entry.now result.1.pass × SameNumbers d result.1.pass }
@@ -136,14 +136,14 @@ fn run_four_workers<R: Threads + Sync>(
     )
 }
 
-// Takes the pass of a worker into the first one. The values stay.
-fn take_in(table: &Table<AnyPair>, into: &mut Pass<AnyPair>, answers: Answers) -> [u64; EACH]
+// WalksToClaim the pass of a worker into the first one. The values stay.
+fn take_in(table: &Table<AnyPair>, into: &mut Pass<AnyPair>, answers: WorkerValues) -> [u64; EACH]
     requires idle { Idle table.now into.old }
     requires also { Idle table.now answers.pass }
     requires number { answers.pass.knows.number ≢ 0 }
     ensures idle { Idle table.now into.new }
 {
-    let Answers { pass, values } = answers;
+    let WorkerValues { pass, values } = answers;
     table.join(into, pass);
     values
 }
@@ -195,7 +195,7 @@ fn four_threads_agree_on_the_value_of_each_key(rt: HostRuntime) -> Result<(), Fa
         let ((first, second), (third, fourth)) = run_four_workers(
             &rt, &table, &arrived, a, b, c, d,
         );
-        let Answers {
+        let WorkerValues {
             pass: mut all,
             values,
         } = first;

@@ -22,7 +22,7 @@ const KEYS: usize = 50;
 
 /// What a thread was told: of each key the value that put_at_home, its own or the other's.
 #[derive(Drop)]
-struct Answers {
+struct WorkerValues {
     pass: Pass<AnyPair>,
     values: [u64; KEYS],
 }
@@ -66,7 +66,7 @@ fn offer_all(
     arrived: &AtomicU64,
     mut pass: Pass<AnyPair>,
     offer: u64,
-) -> Answers
+) -> WorkerValues
     requires idle { Idle cells.now pass }
     requires offer { offer ≤ 2000 }
     ensures idle { Idle cells.now result.pass }
@@ -78,7 +78,7 @@ fn offer_all(
         let key = i as u64 + 1;
         values[i] = put_at_home(cells, &mut pass, key, offer + key);
     }
-    Answers { pass, values }
+    WorkerValues { pass, values }
 }
 
 fn race_both<R: Threads>(
@@ -87,7 +87,7 @@ fn race_both<R: Threads>(
     arrived: &AtomicU64,
     one: Pass<AnyPair>,
     other: Pass<AnyPair>,
-) -> (Answers, Answers)
+) -> (WorkerValues, WorkerValues)
     requires one { Idle cells.now one }
     requires other { Idle cells.now other }
     ensures first { Idle cells.now result.0.pass × SameNumbers one result.0.pass }
@@ -95,11 +95,11 @@ fn race_both<R: Threads>(
 {
     join(
         rt,
-        move || -> Answers
+        move || -> WorkerValues
             requires { Idle cells.now one }
             ensures { Idle cells.entry.now result.pass × SameNumbers one result.pass }
         { offer_all(cells, arrived, one, 1000) },
-        move || -> Answers
+        move || -> WorkerValues
             requires { Idle cells.now other }
             ensures { Idle cells.entry.now result.pass × SameNumbers other result.pass }
         { offer_all(cells, arrived, other, 2000) },
@@ -131,11 +131,11 @@ fn two_threads_agree_on_the_value_of_each_key(rt: HostRuntime) -> Result<(), Fai
         let b = split_pass(&cells, &mut a);
         let arrived = AtomicU64::new(0);
         let (first, second) = race_both(&rt, &cells, &arrived, a, b);
-        let Answers {
+        let WorkerValues {
             pass: mut a,
             values: ours,
         } = first;
-        let Answers {
+        let WorkerValues {
             pass: b,
             values: theirs,
         } = second;

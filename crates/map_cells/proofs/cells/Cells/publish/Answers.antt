@@ -8,7 +8,7 @@ use Rattle.std.proofs.Common.{◌==◌}
 use prog.Atomic.{either}
 use Rattle.map_core.specs.Places.{key_place}
 use Rattle.map_core.specs.Passes.{look}
-use Rattle.map_cells.specs.Steps.{Steps, MayPublish, ValueTried}
+use Rattle.map_cells.specs.Steps.{StepFrame, MayPublish, ValueTried}
 use Rattle.map_cells.specs.Rule.{TableHolds, Published}
 use Rattle.map_cells.proofs.Exchanges.{publish_allowed}
 use Rattle.map_cells.proofs.StepFacts.{seated, value_there, cell_there, of_steps, fields_after}
@@ -75,7 +75,7 @@ returns-clause-of g c =
     let s = c.compare_exchange-found.ensures.2.tried at i k cell place c.requires.key seen in
     of_steps c.args.self.now c.args.pass.now record { table = c.compare_exchange-found.new.seat.table_id; knows = c.compare_exchange-found.new.seat.me.0 } c.requires.of
     (c.compare_exchange-found.ensures.0 ∙ ap (λ (p : PassView). p.table) c.pass.view_is)
-    (subst (λ (p : PassView). Steps p.knows c.compare_exchange-found.new.seat.me.0) c.pass.view_is s.steps)
+    (subst (λ (p : PassView). StepFrame p.knows c.compare_exchange-found.new.seat.me.0) c.pass.view_is s.steps)
 
 pub returns-clause-tried : goal.returns-clause-tried
 returns-clause-tried g c =

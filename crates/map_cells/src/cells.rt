@@ -100,7 +100,7 @@ impl<F: Facts> Cells<F> {
         }
     }
 
-    /// WalksToClaim a pass into another, which then knows as much as both.
+    /// Takes a pass into another, which then knows as much as both.
     pub fn join(&self, into: &mut Pass<F>, from: Pass<F>)
         requires of { IsOf self.now into.old }
         requires also { IsOf self.now from }
@@ -127,7 +127,7 @@ impl<F: Facts> Cells<F> {
         into.entries += entries;
     }
 
-    /// WalksToClaim the table and a pass apart, and answers the count of entries. What then holds of the whole table held at
+    /// Takes the table and a pass apart, and answers the count of entries. What then holds of the whole table held at
     /// every moment before.
     pub fn close(self, pass: Pass<F>) -> u64
         requires { IsOf self pass }

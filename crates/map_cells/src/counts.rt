@@ -1,4 +1,4 @@
-//! StepFrame on the count of entries: `counted` loads it, and `count` adds to it.
+//! Steps on the count of entries: `counted` loads it, and `count` adds to it.
 ghost use Rattle.std.specs.Prelude.{◌≡◌, ◌<◌, length};
 ghost use Rattle.map_cells.specs.Seen.{IsOf};
 ghost use Rattle.map_cells.specs.Steps.{CountSeen, CountRaised};

@@ -1,4 +1,4 @@
-//! StepFrame on a key word.
+//! Steps on a key word.
 ghost use Rattle.std.specs.Prelude.{◌≡◌, None};
 ghost use Rattle.map_core.specs.Places.{IsCell};
 ghost use Rattle.map_core.specs.Machine.{IsWord, Reaches};

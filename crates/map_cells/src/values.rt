@@ -1,4 +1,4 @@
-//! StepFrame on a value word.
+//! Steps on a value word.
 ghost use Rattle.std.specs.Prelude.{◌≡◌};
 ghost use Rattle.map_core.specs.Places.{IsCell, key_place};
 ghost use Rattle.map_core.specs.Machine.{IsWord};

@@ -89,7 +89,8 @@ impl<F: Facts> Cells<F> {
             cell.generation cell.index key }
         requires closed { ClosedTo pass.old.knows cell.generation key }
         ensures of { IsOf self.now pass.new }
-        ensures takes { WalksToClaim F.fits cell.generation cell.index pass.old.knows pass.new.knows }
+        ensures takes { WalksToClaim F.fits cell.generation cell.index
+            pass.old.knows pass.new.knows }
         ensures taken { TakesAt cell.generation cell.index key pass.new.knows result }
     {
         match self.key_at(pass, cell) {

@@ -131,7 +131,7 @@ impl<F: Facts> Table<F> {
         self.cells.split(pass)
     }
 
-    /// WalksToClaim a pass into another, which then knows as much as both.
+    /// Takes a pass into another, which then knows as much as both.
     pub fn join(&self, into: &mut Pass<F>, from: Pass<F>)
         requires of { IsOf self.now into.old }
         requires also { IsOf self.now from }

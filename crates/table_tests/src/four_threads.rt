@@ -136,7 +136,7 @@ fn run_four_workers<R: Threads + Sync>(
     )
 }
 
-// WalksToClaim the pass of a worker into the first one. The values stay.
+// Takes the pass of a worker into the first one. The values stay.
 fn take_in(table: &Table<AnyPair>, into: &mut Pass<AnyPair>, answers: WorkerValues) -> [u64; EACH]
     requires idle { Idle table.now into.old }
     requires also { Idle table.now answers.pass }

@@ -181,7 +181,7 @@ pub(crate) fn split_pass(cells: &Cells<AnyPair>, pass: &mut Pass<AnyPair>) -> Pa
     cells.split(pass)
 }
 
-/// WalksToClaim a pass into another.
+/// Takes a pass into another.
 pub(crate) fn join_passes(cells: &Cells<AnyPair>, into: &mut Pass<AnyPair>, from: Pass<AnyPair>)
     requires idle { Idle cells.now into.old }
     requires also { Idle cells.now from }

@@ -1,6 +1,6 @@
 //! Intervals laid out as boundaries.
 
-ghost use Rattle.std.specs.Prelude.{◌≡◌, ◌+◌, ◌≤◌, ◌^◌, length, IfOk};
+ghost use Rattle.std.specs.Prelude.{◌≡◌, ◌+◌, ◌<◌, ◌≤◌, ◌^◌, length, IfOk};
 ghost use Rattle.interval_index.specs.declared.boundaries.Boundary.{Boundary};
 ghost use Rattle.interval_index.specs.Boundaries.{Ascends, Lays, first_told};
 
@@ -14,16 +14,16 @@ pub(crate) struct Boundary {
     /// The first number.
     pub from: u64,
     /// The number of the interval.
-    pub owner: Option<u32>,
+    pub owner: Option<usize>,
 }
 
 /// Lays intervals out, which are numbered from `number` on: each half, and then both in one.
 pub(crate) fn lay(
     alloc: Global,
-    number: u32,
+    number: usize,
     intervals: &[Interval],
 ) -> Result<Vec<Boundary>, AllocError>
-    requires { number + length intervals.now ≤ 2 ^ 32 }
+    requires { number + length intervals.now < 2 ^ 64 }
     ensures { IfOk result (λ v. Lays number intervals.now v.items) }
 {
     if intervals.len() < 2 {
@@ -31,12 +31,16 @@ pub(crate) fn lay(
     }
     let middle = intervals.len() / 2;
     let first = lay(alloc, number, &intervals[..middle])?;
-    let second = lay(alloc, number + middle as u32, &intervals[middle..])?;
+    let second = lay(alloc, number + middle, &intervals[middle..])?;
     merge(alloc, &first, &second)
 }
 
 /// Lays out one interval, or none.
-fn lay_one(alloc: Global, number: u32, intervals: &[Interval]) -> Result<Vec<Boundary>, AllocError>
+fn lay_one(
+    alloc: Global,
+    number: usize,
+    intervals: &[Interval],
+) -> Result<Vec<Boundary>, AllocError>
     requires { length intervals.now ≤ 1 }
     ensures { IfOk result (λ v. Lays number intervals.now v.items) }
 {
@@ -57,7 +61,7 @@ fn lay_one(alloc: Global, number: u32, intervals: &[Interval]) -> Result<Vec<Bou
 }
 
 /// The first interval that has `number`, read off the boundaries.
-pub(crate) fn first_told(boundaries: &[Boundary], number: u64) -> Option<u32>
+pub(crate) fn first_told(boundaries: &[Boundary], number: u64) -> Option<usize>
     requires { Ascends (λ (b : Boundary). b.from) 0 boundaries.now }
     ensures { result ≡ first_told boundaries.now number }
 {

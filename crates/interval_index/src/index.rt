@@ -1,6 +1,6 @@
 //! Intervals in an order of their own, bisected.
 
-ghost use Rattle.std.specs.Prelude.{◌≡◌, ◌≤◌, ◌^◌, ℕ, length, IfOk};
+ghost use Rattle.std.specs.Prelude.{◌≡◌, ℕ, IfOk};
 ghost use Rattle.interval_index.specs.Intervals.{first_with};
 ghost use Rattle.interval_index.specs.Boundaries.{first_told};
 
@@ -35,7 +35,6 @@ impl IntervalIndex {
     /// # Errors
     /// [`AllocError`] for want of memory.
     pub fn build(alloc: Global, intervals: &[Interval]) -> Result<IntervalIndex, AllocError>
-        requires { length intervals.now ≤ 2 ^ 32 }
         ensures { IfOk result (λ index. (n : ℕ) → first_told index n ≡ first_with intervals.now n) }
     {
         let boundaries = lay(alloc, 0, intervals)?;
@@ -44,7 +43,7 @@ impl IntervalIndex {
 
     /// The number of the first interval that has `number`, or `None` where none has. No memory is
     /// taken.
-    pub fn first(&self, number: u64) -> Option<u32>
+    pub fn first(&self, number: u64) -> Option<usize>
         ensures { result ≡ first_told self.now number }
     {
         first_told(&self.boundaries, number)

@@ -13,9 +13,9 @@ use std::marker::Model;
 #[derive(Drop)]
 struct Sides<'a> {
     first: &'a [Boundary],
-    first_owner: Option<u32>,
+    first_owner: Option<usize>,
     second: &'a [Boundary],
-    second_owner: Option<u32>,
+    second_owner: Option<usize>,
 }
 
 impl<'a> Model for Sides<'a> {
@@ -124,7 +124,7 @@ fn pass_second(sides: &mut Sides<'_>) -> Boundary
 
 /// Who owns the numbers before the next boundary.
 #[inline]
-fn owner_of(sides: &Sides<'_>) -> Option<u32>
+fn owner_of(sides: &Sides<'_>) -> Option<usize>
     ensures { result ≡ option_or sides.now.first_owner sides.now.second_owner }
 {
     match sides.first_owner {

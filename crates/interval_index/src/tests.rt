@@ -25,7 +25,7 @@ fn the_first_of_overlapping_intervals_is_found(rt: HostRuntime) {
         let mut walked = None;
         for k in 0..9usize {
             if walked.is_none() && INTERVALS[k].low <= number && number < INTERVALS[k].high {
-                walked = Some(k as u32);
+                walked = Some(k);
             }
         }
         assert_eq!(rt; index.first(number), walked);

@@ -1,5 +1,5 @@
 -- The rows of the walk hold what the words gave so far.
-use Rattle.std.proofs.Common.{◌≡◌, ◌∙◌, ◌⊎◌, ◌+◌, ℕ, Bool, cond, true, false, zero, suc, refl, sym, ap, inl, inr, arith, append_assoc, append-nil, leb-false, List, [], ◌∷◌, ◌++◌, Option, Some, None, codes, option_map, option_and_then, bytes_eq, nat_le, ◌==◌}
+use Rattle.std.proofs.Common.{◌≡◌, ◌∙◌, ◌⊎◌, ◌≤◌, ◌+◌, length, ℕ, Bool, cond, true, false, zero, suc, refl, sym, ap, inl, inr, arith, append_assoc, append-nil, List, [], ◌∷◌, ◌++◌, Option, Some, None, codes, option_map, option_and_then, bytes_eq, nat_le, ◌==◌}
 use Rattle.clap.specs.Faults.{use_fault}
 use Rattle.clap.specs.Kinds.{Kinds}
 use Rattle.clap.specs.Walk.{Row, Rule, Text, used}
@@ -23,6 +23,8 @@ pub record Holds (rows : List Row) (g : GivenWords) : Type 0 where
   pub workers : found (codes "workers") rows ≡ line (codes "workers") g.workers
   pub stats : found (codes "stats") rows ≡ line (codes "stats") (marks g.stats)
   pub rest : found (codes "rest") rows ≡ line (codes "rest") g.rest
+  pub one_value : length g.workers ≤ 1
+  pub one_flag : g.stats ≤ 1
 
 -- what was given, and what is given behind it
 abbrev pub joined : GivenWords → GivenWords → GivenWords
@@ -89,6 +91,8 @@ use_value rows g v h = go g.workers refl h.workers
       workers = rw (same_without (codes "workers") rows none, e) (found_new (codes "workers") AsWritten CommandLine (v ∷ []) rows refl none);
       stats = rw (same_without (codes "workers") rows none) (found_other (codes "workers") AsWritten CommandLine (v ∷ []) (codes "stats") refl rows ∙ h.stats);
       rest = rw (same_without (codes "workers") rows none) (found_other (codes "workers") AsWritten CommandLine (v ∷ []) (codes "rest") refl rows ∙ h.rest);
+      one_value = rw e (omega arith);
+      one_flag = h.one_flag;
     })
     go (x ∷ xs) e one = inr (rw (has_one (codes "workers") rows _ one) tt, doomed_workers x v xs g e)
 
@@ -100,6 +104,8 @@ use_stats rows g h = go g.stats refl h.stats
       workers = rw (same_without (codes "stats") rows none) (found_other (codes "stats") AsWritten CommandLine (codes "true" ∷ []) (codes "workers") refl rows ∙ h.workers);
       stats = rw (same_without (codes "stats") rows none, e) (found_new (codes "stats") AsWritten CommandLine (codes "true" ∷ []) rows refl none);
       rest = rw (same_without (codes "stats") rows none) (found_other (codes "stats") AsWritten CommandLine (codes "true" ∷ []) (codes "rest") refl rows ∙ h.rest);
+      one_value = h.one_value;
+      one_flag = rw e (omega arith);
     })
     go (suc n) e one = inr (rw (has_one (codes "stats") rows _ one) tt, doomed_stats n g e)
 
@@ -108,6 +114,8 @@ use_word rows g w h = inl (refl, record {
   workers = found_other (codes "rest") AsWritten CommandLine (w ∷ []) (codes "workers") refl rows ∙ h.workers;
   stats = found_other (codes "rest") AsWritten CommandLine (w ∷ []) (codes "stats") refl rows ∙ h.stats;
   rest = go g.rest refl h.rest;
+  one_value = h.one_value;
+  one_flag = h.one_flag;
 })
   where
     go : (ws : List Text) → g.rest ≡ ws → found (codes "rest") rows ≡ line (codes "rest") ws → found (codes "rest") (used rest_arg (w ∷ []) rows) ≡ line (codes "rest") (g.rest ++ w ∷ [])

@@ -6,3 +6,5 @@ pub mod Holding
 pub mod Spelling
 pub mod GivenSteps
 pub mod WordsRead
+pub mod Answered
+pub mod Settled

@@ -7,7 +7,7 @@ use Rattle.std.proofs.Math.Utf8.{encodes}
 use Rattle.std.proofs.lemmas.Slice.Eq.{bytes_eq-Decides}
 use Rattle.std.proofs.lemmas.Str.{chars_past_char, encodes-chars}
 use Rattle.clap.specs.Lexer.{long_of, short_of}
-use Rattle.dw_words.specs.GivenWords.{GivenWords, Text, is_dashed, option_of, option_parts, with_value}
+use Rattle.dw_words.specs.GivenWords.{GivenWords, Text, as_worker_count, worker_count, is_dashed, option_of, option_parts, with_value}
 use Rattle.dw_words.specs.Numbers.{are_digits, decimal_of, number_in}
 use Rattle.dw_words.proofs.Holding.{if_none, meant}
 use Rattle.dw_words.proofs.WordSteps.{and-false}
@@ -121,12 +121,16 @@ no_number : (t : Text) → decimal_of (45 ∷ t) ≡ None
 unfolding number_in
 no_number t = rw (and-false _) refl
 
+no_count : (t : Text) → worker_count (45 ∷ t) ≡ None
+unfolding worker_count
+no_count t = ap (option_and_then as_worker_count) (no_number t)
+
 pub no_value : (word : Text) → HasHyphen word → (g : GivenWords) (o : Option GivenWords) → meant g (with_value word o) ≡ None
 no_value word h g None = refl
 no_value word h g (Some k) = go g.workers refl k.workers refl
   where
-    none : decimal_of word ≡ None
-    none = ap decimal_of h.1 ∙ no_number h.0
+    none : worker_count word ≡ None
+    none = ap worker_count h.1 ∙ no_count h.0
 
     go : (xs : List Text) → g.workers ≡ xs → (ys : List Text) → k.workers ≡ ys → meant g (with_value word (Some k)) ≡ None
     go [] e [] f = rw (e, f, none) (if_none _)

@@ -1,5 +1,5 @@
 -- What `clap` makes of the words is their meaning.
-use Rattle.std.proofs.Common.{◌≡◌, ◌∙◌, ◌⊎◌, ◌||◌, ◌==◌, ◌+◌, arith, append-nil, ℕ, Bool, cond, true, false, zero, suc, refl, sym, ap, ap₂, subst, inl, inr, List, [], ◌∷◌, ◌++◌, Option, Some, None, codes, fold, bytes_eq, option_and_then}
+use Rattle.std.proofs.Common.{◌≡◌, ◌≤◌, length, option_map, slice_get, ◌∙◌, ◌⊎◌, ◌||◌, ◌==◌, ◌+◌, arith, append-nil, ℕ, Bool, cond, true, false, zero, suc, refl, sym, ap, ap₂, subst, inl, inr, List, [], ◌∷◌, ◌++◌, Option, Some, None, codes, fold, bytes_eq, option_and_then}
 use Rattle.std.specs.Str.{IsUtf8}
 use Rattle.std.specs.Option.{is_some}
 use Rattle.clap.proofs.OnLiterals.{clap_on_literals}
@@ -12,7 +12,7 @@ use Rattle.clap.specs.Walk.{Row, Rule, Text, Waiting, Walk, finished, has_row, n
 use Rattle.clap.specs.declared.builder.value_parser.Reading.TheVariants.{AsWritten}
 use Rattle.clap.specs.declared.parser.matches.ValueSource.TheVariants.{DefaultValue}
 use Rattle.dw_words.specs.GivenWords.{GivenWords, Meaning, given_of, is_dashed, meaning, nothing_given, option_of, settle, with_stats, with_value, with_word}
-use Rattle.dw_words.specs.Parser.{words_app}
+use Rattle.dw_words.specs.Parser.{Ends, MatchesMean, flag_text, listed, words_app}
 use Rattle.dw_words.proofs.GivenSteps.{gives_dashed, gives_dashes, gives_no_value, gives_stats, gives_unknown, gives_value, gives_word, gives_workers, gives_workers_value}
 use Rattle.dw_words.proofs.Holding.{Doomed, Holds, Stands, Uses, line, marks, meant, meant_stats, meant_value, meant_word, merge, stands_alone, stands_value, stands_word, stats_more, use_stats, use_value, value_more, word_more}
 use Rattle.dw_words.proofs.RowLemmas.{found, found_new, found_other, has_none, has_one}
@@ -22,19 +22,8 @@ use Rattle.dw_words.proofs.WordSteps as steps
 
 -- ---- what is wanted of the walk from a place on
 
--- the text that the flag's getter reads
-abbrev pub flag_text : ℕ → Text
-flag_text zero = codes "false"
-flag_text (suc n) = codes "true"
-
--- the rows at the end are those of what was given
-pub record Ends (rows : List Row) (g : GivenWords) : Type 0 where
-  pub workers : found (codes "workers") rows ≡ line (codes "workers") g.workers
-  pub stats : one_of (codes "stats") rows ≡ Some (flag_text g.stats)
-  pub rest : found (codes "rest") rows ≡ line (codes "rest") g.rest
-
 abbrev pub Reads : Kinds → List Row → Option Meaning → Type 0
-Reads [] rows m = (g : GivenWords) × Ends rows g × (m ≡ settle g)
+Reads [] rows m = MatchesMean rows m
 Reads (k ∷ kinds) rows m = m ≡ None
 
 abbrev pub end_fault : Walk → Kinds
@@ -117,20 +106,33 @@ finished_rows rows =
     let first : with_default rows steps.workers_arg ≡ rows = if_same (has_row (codes "workers") rows) rows in
     ap (λ rs. with_default (with_default rs steps.stats_arg) steps.rest_arg) first ∙ if_same (has_row (codes "rest") (with_default rows steps.stats_arg)) (with_default rows steps.stats_arg)
 
+line_first : (id : Text) (values : List Text) → option_and_then (λ (r : Row). slice_get r.values 0) (line id values) ≡ slice_get values 0
+line_first id [] = refl
+line_first id (v ∷ vs) = refl
+
+line_values : (id : Text) (values : List Text) → option_map (λ (r : Row). r.values) (line id values) ≡ listed values
+line_values id [] = refl
+line_values id (v ∷ vs) = refl
+
+ends_of : (rows : List Row) (g : GivenWords) → found (codes "workers") rows ≡ line (codes "workers") g.workers → one_of (codes "stats") rows ≡ Some (flag_text g.stats)
+    → found (codes "rest") rows ≡ line (codes "rest") g.rest → length g.workers ≤ 1 → g.stats ≤ 1 → Ends rows g
+ends_of rows g workers stats rest one_value one_flag = record {
+  workers = ap (option_and_then (λ (r : Row). slice_get r.values 0)) workers ∙ line_first (codes "workers") g.workers;
+  one_value = one_value;
+  stats = stats;
+  one_flag = one_flag;
+  rest = ap (option_map (λ (r : Row). r.values)) rest ∙ line_values (codes "rest") g.rest;
+}
+
 ends_with : (rows : List Row) (g : GivenWords) → Holds rows g → Ends (with_default rows steps.stats_arg) g
 ends_with rows g h = go g.stats refl h.stats
   where
     go : (n : ℕ) → g.stats ≡ n → found (codes "stats") rows ≡ line (codes "stats") (marks n) → Ends (with_default rows steps.stats_arg) g
-    go zero e none = record {
-      workers = rw (has_none (codes "stats") rows none) (found_other (codes "stats") AsWritten DefaultValue (codes "false" ∷ []) (codes "workers") refl rows ∙ h.workers);
-      stats = rw (has_none (codes "stats") rows none, e, found_new (codes "stats") AsWritten DefaultValue (codes "false" ∷ []) rows refl none) refl;
-      rest = rw (has_none (codes "stats") rows none) (found_other (codes "stats") AsWritten DefaultValue (codes "false" ∷ []) (codes "rest") refl rows ∙ h.rest);
-    }
-    go (suc n) e one = record {
-      workers = rw (has_one (codes "stats") rows _ one) h.workers;
-      stats = rw (has_one (codes "stats") rows _ one, e, one) refl;
-      rest = rw (has_one (codes "stats") rows _ one) h.rest;
-    }
+    go zero e none = rw (has_none (codes "stats") rows none) (ends_of _ g
+      (found_other (codes "stats") AsWritten DefaultValue (codes "false" ∷ []) (codes "workers") refl rows ∙ h.workers)
+      (rw (e, found_new (codes "stats") AsWritten DefaultValue (codes "false" ∷ []) rows refl none) refl)
+      (found_other (codes "stats") AsWritten DefaultValue (codes "false" ∷ []) (codes "rest") refl rows ∙ h.rest) h.one_value h.one_flag)
+    go (suc n) e one = rw (has_one (codes "stats") rows _ one) (ends_of rows g h.workers (rw (e, one) refl) h.rest h.one_value h.one_flag)
 
 no_check_fault : (rows : List Row) → check_fault top rows false ≡ []
 unfolding top
@@ -296,7 +298,7 @@ meant_all (Some h) =
 pub parse_reads : (words : List Text) → AreTexts words → Reads (fault_of words_app words) (matches_of words_app words) (meaning words)
 unfolding before top meaning
 parse_reads words texts = go (fold (walked (built words_app).top.rules []) (walk_from nothing_held) words).stopped
-    (subst (ReadsFrom (before None idle []) words) (meant_all (given_of false words)) ((reads_all words texts).plain false None [] nothing_given (stands_alone [] nothing_given (record { workers = refl; stats = refl; rest = refl }))))
+    (subst (ReadsFrom (before None idle []) words) (meant_all (given_of false words)) ((reads_all words texts).plain false None [] nothing_given (stands_alone [] nothing_given (record { workers = refl; stats = refl; rest = refl; one_value = omega arith; one_flag = omega arith }))))
   where
     end : Walk
     end = fold (walked (built words_app).top.rules []) (walk_from nothing_held) words

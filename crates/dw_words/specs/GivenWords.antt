@@ -5,8 +5,9 @@ use Rattle.std.specs.List.{list_any, before_first, after_first}
 use Rattle.std.specs.Str.{bytes_eq}
 use Rattle.dw_words.specs.Numbers.{decimal_of}
 use Rattle.dw_words.specs.declared.given.Given.{Given}
-use Rattle.dw_words.specs.declared.given.WordsRefusal.{WordsRefusal}
-use Rattle.dw_words.specs.declared.given.WordsRefusal.TheVariants as refusals
+use Rattle.dw_words.specs.declared.given.TheConstants.{MOST_WORKERS}
+use Rattle.dw_words.specs.declared.refusals.WordsRefusal.{WordsRefusal}
+use Rattle.dw_words.specs.declared.refusals.WordsRefusal.TheVariants as refusals
 
 abbrev pub Text : Type 0
 Text = List ℕ
@@ -91,14 +92,17 @@ pub record Meaning : Type 0 where
   pub rest : List Text
 
 -- 1 to 64
-abbrev pub worker_count : ℕ → Option ℕ
-worker_count n = if nat_le 1 n && nat_le n 64 then Some n else None
+abbrev pub as_worker_count : ℕ → Option ℕ
+as_worker_count n = if nat_le 1 n && nat_le n MOST_WORKERS then Some n else None
+
+unfoldable pub worker_count : Text → Option ℕ
+worker_count value = option_and_then as_worker_count (decimal_of value)
 
 abbrev pub with_workers : List Text → Bool → List Text → Option Meaning
 with_workers [] stats rest = Some (record { workers = None; stats = stats; rest = rest })
 with_workers (value ∷ []) stats rest =
-    option_map (λ n. record { workers = Some n; stats = stats; rest = rest })
-    (option_and_then worker_count (decimal_of value))
+    option_map {T = ℕ} (λ n. record { workers = Some n; stats = stats; rest = rest })
+    (worker_count value)
 with_workers (value ∷ other ∷ others) stats rest = None
 
 -- an option given twice has no meaning

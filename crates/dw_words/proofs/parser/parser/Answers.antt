@@ -2,7 +2,7 @@ use Rattle.std.proofs.Common.{rules, ap, ap₂, ◌≡◌, ◌∙◌, true}
 use Rattle.clap.specs.Simple.{app_of_fields}
 use Rattle.clap.specs.Words.{App, app_of, rule_of, with_rule}
 use Rattle.dw_words.specs.Parser.{bare_app, rest_rule, stats_rule, workers_rule}
-use Rattle.dw_words.proofs.given.parser.Goals as goal
+use Rattle.dw_words.proofs.parser.parser.Goals as goal
 
 pub returns : goal.returns
 returns c =

@@ -1,7 +1,7 @@
 -- What the calls of `clap` answer, in the words of specs/GivenWords.antt.
-use Rattle.std.proofs.Common.{◌≡◌, ◌∙◌, ◌≢◌, ℕ, true, sym, ap, subst, inl, inr, List, [], ◌∷◌, map, Option, None, String, string_bytes}
+use Rattle.std.proofs.Common.{◌≡◌, ◌∙◌, ◌≢◌, true, sym, ap, subst, inl, inr, List, [], ◌∷◌, map, Option, None, String, string_bytes}
 use Rattle.std.proofs.lemmas.Str.{IsUtf8-string_bytes}
-use Rattle.clap.specs.Words.{App, FailsBy, HasKind, HasMatchesOf, IsAmong, Kinds, Row, Text, fault_of, found_of, is_simple, is_simple_and_free, kind_of, matches_of, rows_of}
+use Rattle.clap.specs.Words.{App, HasKind, HasMatchesOf, IsAmong, Kinds, Row, Text, fault_of, found_of, is_simple, is_simple_and_free, kind_of, matches_of, rows_of}
 use Rattle.clap.specs.declared.error.Error.{Error}
 use Rattle.clap.specs.declared.error.kind.ErrorKind.{ErrorKind}
 use Rattle.clap.specs.declared.error.kind.ErrorKind.TheVariants as kind

@@ -1,6 +1,6 @@
 -- What each kind of word gives, in the words of specs/GivenWords.antt.
-use Rattle.std.proofs.Common.{◌≡◌, true, false, refl, List, [], ◌∷◌, Option, Some, None, codes, bytes_eq}
-use Rattle.dw_words.specs.GivenWords.{GivenWords, Text, given_of, nothing_given, option_of, is_dashed, with_stats, with_value, with_word}
+use Rattle.std.proofs.Common.{◌≡◌, true, false, refl, List, ◌∷◌, Some, None, codes, bytes_eq}
+use Rattle.dw_words.specs.GivenWords.{Text, given_of, nothing_given, option_of, is_dashed, with_stats, with_value, with_word}
 
 module _ (word : Text) (words : List Text) where
   pub gives_dashes : bytes_eq word (codes "--") ≡ true → given_of false (word ∷ words) ≡ Some (record nothing_given { rest = words })

@@ -1,11 +1,10 @@
 -- The rows of the walk hold what the words gave so far.
-use Rattle.std.proofs.Common.{◌≡◌, ◌∙◌, ◌⊎◌, ◌≤◌, ◌+◌, length, ℕ, Bool, cond, true, false, zero, suc, refl, sym, ap, inl, inr, arith, append_assoc, append-nil, List, [], ◌∷◌, ◌++◌, Option, Some, None, codes, option_map, option_and_then, bytes_eq, nat_le, ◌==◌}
+use Rattle.std.proofs.Common.{◌≡◌, ◌∙◌, ◌⊎◌, ◌≤◌, ◌+◌, length, ℕ, Bool, cond, true, false, zero, suc, refl, ap, inl, inr, arith, append_assoc, List, [], ◌∷◌, ◌++◌, Option, Some, None, codes, option_map, option_and_then, nat_le}
 use Rattle.clap.specs.Faults.{use_fault}
-use Rattle.clap.specs.Kinds.{Kinds}
 use Rattle.clap.specs.Walk.{Row, Rule, Text, used}
 use Rattle.clap.specs.declared.builder.value_parser.Reading.TheVariants.{AsWritten}
 use Rattle.clap.specs.declared.parser.matches.ValueSource.TheVariants.{CommandLine}
-use Rattle.dw_words.specs.GivenWords.{GivenWords, Meaning, settle, with_stats, with_value, with_word, with_workers}
+use Rattle.dw_words.specs.GivenWords.{GivenWords, Meaning, settle, with_stats, with_value, with_word}
 use Rattle.dw_words.proofs.RowLemmas.{found, found_more, found_new, found_other, has_none, has_one, same_without}
 use Rattle.dw_words.proofs.WordStates.{Fails, pending_fault, settled_to, top}
 use Rattle.dw_words.proofs.WordSteps.{rest_arg, stats_arg, workers_arg}
@@ -87,36 +86,45 @@ pub use_value : (rows : List Row) (g : GivenWords) (v : Text) → Holds rows g �
 use_value rows g v h = go g.workers refl h.workers
   where
     go : (ws : List Text) → g.workers ≡ ws → found (codes "workers") rows ≡ line (codes "workers") ws → Uses workers_arg (v ∷ []) rows (value_more g v)
-    go [] e none = inl (rw (has_none (codes "workers") rows none) refl, record {
-      workers = rw (same_without (codes "workers") rows none, e) (found_new (codes "workers") AsWritten CommandLine (v ∷ []) rows refl none);
-      stats = rw (same_without (codes "workers") rows none) (found_other (codes "workers") AsWritten CommandLine (v ∷ []) (codes "stats") refl rows ∙ h.stats);
-      rest = rw (same_without (codes "workers") rows none) (found_other (codes "workers") AsWritten CommandLine (v ∷ []) (codes "rest") refl rows ∙ h.rest);
-      one_value = rw e (omega arith);
-      one_flag = h.one_flag;
-    })
+    go [] e none = inl (
+      rw (has_none (codes "workers") rows none) refl,
+      record {
+        workers = rw (same_without (codes "workers") rows none, e) (found_new (codes "workers") AsWritten CommandLine (v ∷ []) rows refl none);
+        stats = rw (same_without (codes "workers") rows none) (found_other (codes "workers") AsWritten CommandLine (v ∷ []) (codes "stats") refl rows ∙ h.stats);
+        rest = rw (same_without (codes "workers") rows none) (found_other (codes "workers") AsWritten CommandLine (v ∷ []) (codes "rest") refl rows ∙ h.rest);
+        one_value = rw e (omega arith);
+        one_flag = h.one_flag;
+      },
+    )
     go (x ∷ xs) e one = inr (rw (has_one (codes "workers") rows _ one) tt, doomed_workers x v xs g e)
 
 pub use_stats : (rows : List Row) (g : GivenWords) → Holds rows g → Uses stats_arg [] rows (stats_more g)
 use_stats rows g h = go g.stats refl h.stats
   where
     go : (n : ℕ) → g.stats ≡ n → found (codes "stats") rows ≡ line (codes "stats") (marks n) → Uses stats_arg [] rows (stats_more g)
-    go zero e none = inl (rw (has_none (codes "stats") rows none) refl, record {
-      workers = rw (same_without (codes "stats") rows none) (found_other (codes "stats") AsWritten CommandLine (codes "true" ∷ []) (codes "workers") refl rows ∙ h.workers);
-      stats = rw (same_without (codes "stats") rows none, e) (found_new (codes "stats") AsWritten CommandLine (codes "true" ∷ []) rows refl none);
-      rest = rw (same_without (codes "stats") rows none) (found_other (codes "stats") AsWritten CommandLine (codes "true" ∷ []) (codes "rest") refl rows ∙ h.rest);
-      one_value = h.one_value;
-      one_flag = rw e (omega arith);
-    })
+    go zero e none = inl (
+      rw (has_none (codes "stats") rows none) refl,
+      record {
+        workers = rw (same_without (codes "stats") rows none) (found_other (codes "stats") AsWritten CommandLine (codes "true" ∷ []) (codes "workers") refl rows ∙ h.workers);
+        stats = rw (same_without (codes "stats") rows none, e) (found_new (codes "stats") AsWritten CommandLine (codes "true" ∷ []) rows refl none);
+        rest = rw (same_without (codes "stats") rows none) (found_other (codes "stats") AsWritten CommandLine (codes "true" ∷ []) (codes "rest") refl rows ∙ h.rest);
+        one_value = h.one_value;
+        one_flag = rw e (omega arith);
+      },
+    )
     go (suc n) e one = inr (rw (has_one (codes "stats") rows _ one) tt, doomed_stats n g e)
 
 pub use_word : (rows : List Row) (g : GivenWords) (w : Text) → Holds rows g → Uses rest_arg (w ∷ []) rows (word_more g w)
-use_word rows g w h = inl (refl, record {
-  workers = found_other (codes "rest") AsWritten CommandLine (w ∷ []) (codes "workers") refl rows ∙ h.workers;
-  stats = found_other (codes "rest") AsWritten CommandLine (w ∷ []) (codes "stats") refl rows ∙ h.stats;
-  rest = go g.rest refl h.rest;
-  one_value = h.one_value;
-  one_flag = h.one_flag;
-})
+use_word rows g w h = inl (
+  refl,
+  record {
+    workers = found_other (codes "rest") AsWritten CommandLine (w ∷ []) (codes "workers") refl rows ∙ h.workers;
+    stats = found_other (codes "rest") AsWritten CommandLine (w ∷ []) (codes "stats") refl rows ∙ h.stats;
+    rest = go g.rest refl h.rest;
+    one_value = h.one_value;
+    one_flag = h.one_flag;
+  },
+)
   where
     go : (ws : List Text) → g.rest ≡ ws → found (codes "rest") rows ≡ line (codes "rest") ws → found (codes "rest") (used rest_arg (w ∷ []) rows) ≡ line (codes "rest") (g.rest ++ w ∷ [])
     go [] e none = rw e (found_new (codes "rest") AsWritten CommandLine (w ∷ []) rows refl none)

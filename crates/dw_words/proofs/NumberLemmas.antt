@@ -1,5 +1,5 @@
 -- What `from_str_radix` gives, in the words of specs/Numbers.antt.
-use Rattle.std.proofs.Common.{◌≡◌, ◌≤◌, ◌<◌, ◌^◌, ◌&&◌, ◌==◌, ℕ, Bool, cond, true, false, ap, sym, refl, subst, arith, true≢false, List, [], ◌∷◌, length, drop, Option, Some, None, Result, Ok, Err, OkIff, le-leb, lt-ltb, leb-true, ltb-true, nat_le, nat_lt, slice_index}
+use Rattle.std.proofs.Common.{◌≡◌, ◌≤◌, ◌<◌, ◌^◌, ◌&&◌, ◌==◌, ℕ, Bool, cond, true, false, ap, sym, refl, subst, true≢false, List, [], ◌∷◌, length, drop, Some, None, Result, Ok, Err, OkIff, le-leb, lt-ltb, leb-true, ltb-true, nat_lt, slice_index}
 use Rattle.std.specs.Char.{digit_value}
 use Rattle.std.specs.Result.{result_ok}
 use Rattle.std.specs.Str.Parse.{AllDigits, IsNumeral, ParsesUnsigned, digits_value}

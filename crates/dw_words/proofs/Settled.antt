@@ -1,5 +1,5 @@
 -- What the matches of a parse mean.
-use Rattle.std.proofs.Common.{◌≡◌, ◌∙◌, ◌≤◌, ◌==◌, ℕ, Bool, true, false, true≢false, zero, suc, refl, sym, ap, arith, List, [], ◌∷◌, length, Option, Some, None, Result, Ok, Err, codes, is_ok, nat_le, option_map, slice_get, unwrap_or}
+use Rattle.std.proofs.Common.{◌≡◌, ◌∙◌, ◌≤◌, ◌==◌, ℕ, Bool, true, false, true≢false, zero, suc, refl, sym, ap, arith, List, [], ◌∷◌, length, Option, Some, None, Result, Ok, codes, is_ok, nat_le, option_map, slice_get, unwrap_or}
 use Rattle.std.specs.Result.{result_unwrap_or}
 use Rattle.clap.specs.Words.{Row, Text, all_of, first_of, one_of}
 use Rattle.dw_words.specs.GivenWords.{GivenWords, Meaning, settle, with_workers, worker_count}

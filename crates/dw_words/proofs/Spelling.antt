@@ -1,14 +1,12 @@
 -- What a word looks like to `clap`, and to specs/GivenWords.antt.
-use Rattle.std.proofs.Common.{◌≡◌, ◌∙◌, ◌⊎◌, ◌<◌, ◌&&◌, ◌==◌, ℕ, Bool, true, false, refl, sym, ap, subst, inl, inr, arith, eqb-true, List, [], ◌∷◌, length, Option, Some, None, codes, bytes_eq, chars, slice_get, nat_le, nat_lt, option_and_then}
+use Rattle.std.proofs.Common.{◌≡◌, ◌∙◌, ◌⊎◌, ◌==◌, ℕ, Bool, true, false, refl, sym, ap, subst, inl, inr, arith, eqb-true, List, [], ◌∷◌, length, Option, Some, None, codes, bytes_eq, chars, slice_get, option_and_then}
 use Rattle.std.specs.Char.{encode_utf8}
 use Rattle.std.specs.Str.{IsUtf8}
-use Rattle.std.specs.Str.Parse.{digits_value}
 use Rattle.std.proofs.Math.Utf8.{encodes}
-use Rattle.std.proofs.lemmas.Slice.Eq.{bytes_eq-Decides}
 use Rattle.std.proofs.lemmas.Str.{chars_past_char, encodes-chars}
 use Rattle.clap.specs.Lexer.{long_of, short_of}
 use Rattle.dw_words.specs.GivenWords.{GivenWords, Text, as_worker_count, worker_count, is_dashed, option_of, option_parts, with_value}
-use Rattle.dw_words.specs.Numbers.{are_digits, decimal_of, number_in}
+use Rattle.dw_words.specs.Numbers.{decimal_of, number_in}
 use Rattle.dw_words.proofs.Holding.{if_none, meant}
 use Rattle.dw_words.proofs.WordSteps.{and-false}
 

@@ -1,11 +1,11 @@
 -- What each kind of word does to `clap`'s walk.
-use Rattle.std.proofs.Common.{◌≡◌, ◌∙◌, ℕ, Bool, true, false, refl, sym, ap, subst, List, [], ◌∷◌, Option, Some, None, codes, bytes_eq, slice_get, chars, ◌&&◌, ◌||◌, cond}
+use Rattle.std.proofs.Common.{◌≡◌, ℕ, Bool, true, false, refl, List, [], ◌∷◌, Option, Some, None, codes, bytes_eq, slice_get, chars, ◌&&◌}
 use Rattle.clap.specs.Kinds.{Kinds, or_else}
 use Rattle.clap.specs.Faults.{flags_fault, turn_fault, use_fault}
 use Rattle.clap.specs.Lexer.{long_of, short_of}
-use Rattle.clap.specs.Walk.{Row, Rule, Text, Waiting, Walk, idle, option, positional, used, walked}
+use Rattle.clap.specs.Walk.{Row, Rule, Text, Waiting, Walk, idle, positional, used, walked}
 use Rattle.clap.specs.declared.error.kind.ErrorKind.TheVariants as kind
-use Rattle.dw_words.specs.Parser.{rest_rule, stats_rule, words_app, workers_rule}
+use Rattle.dw_words.specs.Parser.{rest_rule, stats_rule, workers_rule}
 use Rattle.clap.specs.Simple.{filled, with_index}
 use Rattle.dw_words.proofs.WordStates.{asked, before, behind, free, pending_fault, settled_to, top, waits}
 

@@ -1,5 +1,5 @@
 -- What `clap` makes of the words is their meaning.
-use Rattle.std.proofs.Common.{◌≡◌, ◌≤◌, length, option_map, slice_get, ◌∙◌, ◌⊎◌, ◌||◌, ◌==◌, ◌+◌, arith, append-nil, ℕ, Bool, cond, true, false, zero, suc, refl, sym, ap, ap₂, subst, inl, inr, List, [], ◌∷◌, ◌++◌, Option, Some, None, codes, fold, bytes_eq, option_and_then}
+use Rattle.std.proofs.Common.{◌≡◌, ◌≤◌, length, option_map, slice_get, ◌∙◌, ◌||◌, ◌+◌, arith, append-nil, ℕ, Bool, cond, true, false, zero, suc, refl, sym, ap, ap₂, subst, inl, inr, List, [], ◌∷◌, Option, Some, None, codes, fold, bytes_eq, option_and_then}
 use Rattle.std.specs.Str.{IsUtf8}
 use Rattle.std.specs.Option.{is_some}
 use Rattle.clap.proofs.OnLiterals.{clap_on_literals}
@@ -11,12 +11,12 @@ use Rattle.clap.specs.Faults.{entered_fault, is_simple_and_free}
 use Rattle.clap.specs.Walk.{Row, Rule, Text, Waiting, Walk, finished, has_row, nothing_held, one_of, settled, used, walk_from, walked, with_default, idle, positional}
 use Rattle.clap.specs.declared.builder.value_parser.Reading.TheVariants.{AsWritten}
 use Rattle.clap.specs.declared.parser.matches.ValueSource.TheVariants.{DefaultValue}
-use Rattle.dw_words.specs.GivenWords.{GivenWords, Meaning, given_of, is_dashed, meaning, nothing_given, option_of, settle, with_stats, with_value, with_word}
+use Rattle.dw_words.specs.GivenWords.{GivenWords, Meaning, given_of, meaning, nothing_given, option_of, settle, with_stats, with_value, with_word}
 use Rattle.dw_words.specs.Parser.{Ends, MatchesMean, flag_text, listed, words_app}
 use Rattle.dw_words.proofs.GivenSteps.{gives_dashed, gives_dashes, gives_no_value, gives_stats, gives_unknown, gives_value, gives_word, gives_workers, gives_workers_value}
-use Rattle.dw_words.proofs.Holding.{Doomed, Holds, Stands, Uses, line, marks, meant, meant_stats, meant_value, meant_word, merge, stands_alone, stands_value, stands_word, stats_more, use_stats, use_value, value_more, word_more}
+use Rattle.dw_words.proofs.Holding.{Doomed, Holds, Stands, Uses, line, marks, meant, meant_stats, meant_value, meant_word, stands_alone, stands_value, stands_word, stats_more, use_stats, use_value, value_more, word_more}
 use Rattle.dw_words.proofs.RowLemmas.{found, found_new, found_other, has_none, has_one}
-use Rattle.dw_words.proofs.Spelling.{IsDashes, IsOption, IsPlainWord, IsShort, Spelled, no_value, spelled}
+use Rattle.dw_words.proofs.Spelling.{Spelled, no_value, spelled}
 use Rattle.dw_words.proofs.WordStates.{Fails, asked, before, behind, free, pending_fault, settled_to, top, waits}
 use Rattle.dw_words.proofs.WordSteps as steps
 
@@ -129,9 +129,9 @@ ends_with rows g h = go g.stats refl h.stats
   where
     go : (n : ℕ) → g.stats ≡ n → found (codes "stats") rows ≡ line (codes "stats") (marks n) → Ends (with_default rows steps.stats_arg) g
     go zero e none = rw (has_none (codes "stats") rows none) (ends_of _ g
-      (found_other (codes "stats") AsWritten DefaultValue (codes "false" ∷ []) (codes "workers") refl rows ∙ h.workers)
-      (rw (e, found_new (codes "stats") AsWritten DefaultValue (codes "false" ∷ []) rows refl none) refl)
-      (found_other (codes "stats") AsWritten DefaultValue (codes "false" ∷ []) (codes "rest") refl rows ∙ h.rest) h.one_value h.one_flag)
+        (found_other (codes "stats") AsWritten DefaultValue (codes "false" ∷ []) (codes "workers") refl rows ∙ h.workers)
+        (rw (e, found_new (codes "stats") AsWritten DefaultValue (codes "false" ∷ []) rows refl none) refl)
+        (found_other (codes "stats") AsWritten DefaultValue (codes "false" ∷ []) (codes "rest") refl rows ∙ h.rest) h.one_value h.one_flag)
     go (suc n) e one = rw (has_one (codes "stats") rows _ one) (ends_of rows g h.workers (rw (e, one) refl) h.rest h.one_value h.one_flag)
 
 no_check_fault : (rows : List Row) → check_fault top rows false ≡ []
@@ -147,10 +147,10 @@ ends_reads : (w : Walk) (p : Option (Text × List Text)) (rows : List Row) (g : 
 unfolding walk_fault pending_fault settled_to
 ends_reads w p rows g m held stands is doomed = elim stands [
   | inl h ↦
-    let none : end_fault w ≡ [] =
-        ap₂ or_else (ap (settle_fault top.rules false) held ∙ h.0) (ap₂ or_else (no_default_fault _) (no_check_fault (finished top.rules w.held))) in
-    let rows_are : finished top.rules w.held ≡ with_default (settled_to p rows) steps.stats_arg = ap (finished top.rules) held ∙ finished_rows (settled_to p rows) in
-    subst (λ kinds. Reads kinds (finished top.rules w.held) m) (sym none) (g, subst (λ rs. Ends rs g) (sym rows_are) (ends_with (settled_to p rows) g h.1), is)
+      let none : end_fault w ≡ [] =
+      ap₂ or_else (ap (settle_fault top.rules false) held ∙ h.0) (ap₂ or_else (no_default_fault _) (no_check_fault (finished top.rules w.held))) in
+      let rows_are : finished top.rules w.held ≡ with_default (settled_to p rows) steps.stats_arg = ap (finished top.rules) held ∙ finished_rows (settled_to p rows) in
+      subst (λ kinds. Reads kinds (finished top.rules w.held) m) (sym none) (g, subst (λ rs. Ends rs g) (sym rows_are) (ends_with (settled_to p rows) g h.1), is)
   | inr h ↦ end_refused w p rows m held h.0 (doomed h.1)
 ]
 
@@ -235,17 +235,17 @@ module _ (word : Text) (words : List Text) (later : ReadsAll words) where
   plain_step : Spelled word → (b : Bool) (p : Option (Text × List Text)) (rows : List Row) (g : GivenWords) → Stands p rows g → Gives (before p (free b) rows) g (given_of false (word ∷ words))
   plain_step s b p rows g stands = elim s [
     | inl d ↦ subst (Gives (before p (free b) rows) g) (sym (gives_dashes word words d.dashes))
-      (passed (before p (free b) rows) (behind p (free b) rows) word words _ (steps.to_dashes p rows word b d.dashes) (trailing words p (free b) rows g stands))
+        (passed (before p (free b) rows) (behind p (free b) rows) word words _ (steps.to_dashes p rows word b d.dashes) (trailing words p (free b) rows g stands))
     | inr t ↦ elim t [
       | inl o ↦ plain_option b p rows g stands o.name o.value o.dashes o.long o.option
       | inr u ↦ elim u [
         | inl o ↦ subst (Gives (before p (free b) rows) g) (sym (gives_dashed word words o.dashes o.option o.dashed))
-          (refused (before p (free b) rows) word words _ (subst Fails (sym (steps.to_dashed p rows word b o.first o.char o.others o.dashes o.long o.short o.chars_from)) tt) refl)
+            (refused (before p (free b) rows) word words _ (subst Fails (sym (steps.to_dashed p rows word b o.first o.char o.others o.dashes o.long o.short o.chars_from)) tt) refl)
         | inr o ↦
-          let next = before (Some (codes "rest", word ∷ [])) positional (settled_to p rows) in
-          subst (Gives (before p (free b) rows) g) (sym (gives_word word words o.dashes o.option o.dashed))
-          (step_settled (before p (free b) rows) next p rows g word words _ (steps.to_plain p rows word b o.dashes o.long o.short) stands (λ dm. dm (with_word word (given_of false words)))
-          (λ h. subst (ReadsFrom next words) (meant_word g word (given_of false words)) (later.plain true (Some (codes "rest", word ∷ [])) (settled_to p rows) (word_more g word) (stands_word (settled_to p rows) g word h))))
+            let next = before (Some (codes "rest", word ∷ [])) positional (settled_to p rows) in
+            subst (Gives (before p (free b) rows) g) (sym (gives_word word words o.dashes o.option o.dashed))
+            (step_settled (before p (free b) rows) next p rows g word words _ (steps.to_plain p rows word b o.dashes o.long o.short) stands (λ dm. dm (with_word word (given_of false words)))
+            (λ h. subst (ReadsFrom next words) (meant_word g word (given_of false words)) (later.plain true (Some (codes "rest", word ∷ [])) (settled_to p rows) (word_more g word) (stands_word (settled_to p rows) g word h))))
       ]
     ]
   ]
@@ -267,9 +267,9 @@ module _ (word : Text) (words : List Text) (later : ReadsAll words) where
       | inr u ↦ elim u [
         | inl o ↦ refused (before asked waits rows) word words _ (subst Fails (sym (steps.waits_dashed rows word o.first o.char o.others o.dashes o.long o.short o.chars_from)) tt) (no_value word o.hyphen g (given_of false words))
         | inr o ↦
-          let next = before (Some (codes "workers", word ∷ [])) idle rows in
-          passed (before asked waits rows) next word words _ (steps.waits_plain rows word o.dashes o.long o.short)
-          (subst (ReadsFrom next words) (meant_value g word (given_of false words)) (later.plain false (Some (codes "workers", word ∷ [])) rows (value_more g word) (stands_value rows g word h)))
+            let next = before (Some (codes "workers", word ∷ [])) idle rows in
+            passed (before asked waits rows) next word words _ (steps.waits_plain rows word o.dashes o.long o.short)
+            (subst (ReadsFrom next words) (meant_value g word (given_of false words)) (later.plain false (Some (codes "workers", word ∷ [])) rows (value_more g word) (stands_value rows g word h)))
       ]
     ]
   ]

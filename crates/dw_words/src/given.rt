@@ -53,7 +53,11 @@ fn given_in<'w>(alloc: Global, matches: &ArgMatches<'w>) -> Result<Given<'w>, Wo
     let workers = workers_in(matches)?;
     let stats = matches.get_flag("stats");
     let rest = rest_in(alloc, matches)?;
-    Ok(Given { workers, stats, rest })
+    Ok(Given {
+        workers,
+        stats,
+        rest,
+    })
 }
 
 /// The number of workers, where it is given.

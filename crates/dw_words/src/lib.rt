@@ -14,3 +14,6 @@ mod refusals;
 pub use given::{Given, MOST_WORKERS, read_given};
 pub use numbers::{read_address, read_decimal};
 pub use refusals::WordsRefusal;
+
+#[cfg(test)]
+mod tests;

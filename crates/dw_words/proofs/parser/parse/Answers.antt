@@ -1,4 +1,4 @@
-use Rattle.std.proofs.Common.{◌∙◌, sym, map, string_bytes}
+use Rattle.std.proofs.Common.{◌∙◌, map, string_bytes}
 use Rattle.dw_words.proofs.Answered.{are_texts, parse_fails, parse_means}
 use Rattle.dw_words.proofs.parser.parse.Goals as goal
 

@@ -1,7 +1,6 @@
 -- What is remembered stays true, and what is found may be remembered.
-use Rattle.std.proofs.Common.{◌≡◌, ◌<◌, ◌^◌, ℕ, Bool, List, length, All, set, slice_index_or, Result, Ok, Err, Option, Some, None, IfSome, inl, inr, ◌⊎◌, refl, sym, ap, subst, ◌∙◌}
+use Rattle.std.proofs.Common.{◌≡◌, ◌<◌, ◌^◌, ℕ, Bool, List, All, Result, Ok, Err, Option, Some, None, IfSome, inl, inr, sym, ap, subst}
 use Rattle.std.proofs.lemmas.List.Elements.{All-set, All-weaker}
-use Rattle.dw_fields.specs.declared.fault_code.Fault.{Fault}
 use Rattle.abbrev_decl.specs.declared.lookup.FindFault.{FindFault}
 use Rattle.abbrev_decl.specs.declared.lookup.FindFault.TheVariants as faults
 use Rattle.abbrev_decl.specs.Shapes.{DeclView}

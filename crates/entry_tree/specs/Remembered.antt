@@ -1,5 +1,5 @@
 -- Declarations that a reader of a unit remembers.
-use Rattle.std.specs.Prelude.{ℕ, ◌≡◌, ◌<◌, ◌^◌, Bool, List, All, length, slice_index_or, Result, Ok, Option, Some, None, IfSome, set, ◌⊎◌}
+use Rattle.std.specs.Prelude.{ℕ, ◌≡◌, ◌<◌, ◌^◌, Bool, List, All, length, slice_index_or, Ok, Option, Some, None, IfSome, set, ◌⊎◌}
 use Rattle.abbrev_decl.specs.Shapes.{DeclView}
 use Rattle.abbrev_decl.specs.Lookup.{Notes, first_declaration, key}
 

@@ -67,16 +67,17 @@ pub fn write_lines_with(
 pub(crate) fn append_table(
     out: &mut Vec<u8>,
     header: &UnitHeader,
+    offset: u64,
     table: &LastTable<'_>,
 ) -> Result<(), UnitRefusal>
     ensures { Writes result out.old.items out.new.items
-        (Ok (table_text header.now.number table.now.offset table.now.program table.now.rows.items)) }
+        (Ok (table_text header.now.number offset table.now.program table.now.rows.items)) }
 {
     let before = out.len();
     match push_table(
         out,
         u64::from(header.number),
-        table.offset,
+        offset,
         &table.program,
         table.rows.as_slice(),
     ) {

@@ -77,23 +77,41 @@ impl<'f> LineTables<'f> {
             (line_table_text self.old header.now offset) }
         ensures same { self.new ≡ self.old }
     {
-        let table = match self.take_last(header.address_size, offset) {
-            Some(table) => table,
-            None => self.read_table(alloc, header, offset)?,
-        };
-        let done = append_table(out, header, &table);
+        let table = self.take_table(alloc, header, offset)?;
+        let done = append_table(out, header, offset, &table);
         self.last = Some(table);
         done
     }
 
-    /// The table that was read last, if it is that of this offset. It is no longer kept then, nor
-    /// is another one: two tables never lie in memory at once.
+    /// The table at an offset, which is then no longer kept.
+    fn take_table(
+        &mut self,
+        alloc: Global,
+        header: &UnitHeader,
+        offset: u64,
+    ) -> Result<LastTable<'f>, UnitRefusal>
+        requires { IsAddressSize header.now.address_size }
+        ensures table { Answers table_view result
+            (table_of self.old header.now.address_size offset) }
+        ensures place { IfOk result (IsReadAt header.now.address_size offset) }
+        ensures same { self.new ≡ self.old }
+    {
+        match self.take_last(header.address_size, offset) {
+            Some(table) => Ok(table),
+            None => self.read_table(alloc, header, offset),
+        }
+    }
+
+    /// The table that was read last, if it is that of this offset. Another one is given up, so that
+    /// two tables never lie in memory at once.
     fn take_last(&mut self, address_size: u8, offset: u64) -> Option<LastTable<'f>>
         ensures table { IfSome result (IsTableOf self.old) }
         ensures place { IfSome result (IsReadAt address_size offset) }
         ensures same { self.new ≡ self.old }
     {
-        let last = self.last.take()?;
+        let Some(last) = self.last.take() else {
+            return None;
+        };
         if last.offset == offset && last.address_size == address_size {
             Some(last)
         } else {

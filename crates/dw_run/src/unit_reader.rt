@@ -15,7 +15,7 @@ use dw_fields::Fault;
 use elf_sections::Sections;
 use entry_tree::{Entry, read_entries};
 use form_values::UnitFacts;
-use handle_cache::{Handle, HandlePass};
+use handle_cache::{Cached, Handle, HandlePass};
 use line_text::LineTables;
 use std::marker::Model;
 use unit_headers::{UnitHeader, UnitRefusal};
@@ -114,9 +114,24 @@ impl<'h, 'f> UnitReader<'h, 'f> {
             (entries_of self.old header.now) }
         ensures same { self.new ≡ self.old }
     {
-        let mut steps = Steps::start(());
-        let sections = self.handle.sections();
-        let mut cached = self.handle.cached(self.pass);
-        read_entries(arena, &mut cached, header, sections, &mut steps)
+        read_unit_entries(arena, self.handle, self.pass, header)
     }
+}
+
+/// All entries of the unit of a header, whose declarations are looked up through the pass.
+fn read_unit_entries<'a, 'f: 'a>(
+    arena: &'a Bump,
+    handle: &Handle<'f>,
+    pass: &mut HandlePass<'f>,
+    header: &UnitHeader,
+) -> Result<&'a [Entry<'a>], UnitRefusal>
+    requires belongs { Belongs handle.now pass.old }
+    requires unit { IsUnitOf (sections_in handle.now) header.now }
+    ensures entries { Answers (λ entries. map entry_view entries.now) result
+        (entries_of (sections_in handle.entry.now) header.now) }
+    ensures belongs { Belongs handle.entry.now pass.new }
+{
+    let mut steps = Steps::start(());
+    let mut cached = Cached { handle, pass };
+    read_entries(arena, &mut cached, header, handle.sections(), &mut steps)
 }

@@ -3,7 +3,7 @@
 ghost use Rattle.std.specs.Prelude.{◌≡◌};
 ghost use Rattle.dw_outside.specs.Faults.{HasCause};
 ghost use Rattle.dw_outside.specs.declared.stops.WriteStop.TheVariants as write_stops;
-ghost use Rattle.elf_sections.specs.Shapes.{sections_view};
+ghost use Rattle.elf_sections.specs.Shapes.{AreShort, sections_view};
 ghost use Rattle.handle_cache.specs.Handles.{Belongs, sections_in, units_of};
 ghost use Rattle.dw_run.specs.CommandTexts.{Prints};
 ghost use Rattle.dw_run.specs.Parts.{part_of_units};
@@ -64,22 +64,22 @@ impl<'f> UnitTexts for UnitLines<'f> {
 
 /// A part of each unit of an opened file. The entries of one unit at a time lie in the arena.
 #[derive(Drop)]
-struct UnitParts<'h, 'f> {
+struct UnitParts<'r, 'h, 'f> {
     alloc: Global,
     part: Part,
-    reader: UnitReader<'h, 'f>,
+    reader: &'r mut UnitReader<'h, 'f>,
     arena: Bump,
 }
 
-impl<'h, 'f> Model for UnitParts<'h, 'f> {
+impl<'r, 'h, 'f> Model for UnitParts<'r, 'h, 'f> {
     ghost use Rattle.dw_run.specs.Parts.{PartView};
 
     ghost Value = { PartView };
 
-    ghost view = { λ u. record { part = u.part; sections = u.reader } };
+    ghost view = { λ u. record { part = u.part; sections = u.reader.now } };
 }
 
-impl<'h, 'f> UnitTexts for UnitParts<'h, 'f> {
+impl<'r, 'h, 'f> UnitTexts for UnitParts<'r, 'h, 'f> {
     ghost use Rattle.unit_headers.specs.Headers.{unit_count};
     ghost use Rattle.dw_run.specs.Parts.{unit_part};
 
@@ -92,14 +92,7 @@ impl<'h, 'f> UnitTexts for UnitParts<'h, 'f> {
     }
 
     fn append(&mut self, unit: u32, out: &mut Vec<u8>) -> Result<(), UnitRefusal> {
-        let done = append_part(
-            self.alloc,
-            self.part,
-            &self.arena,
-            &mut self.reader,
-            unit,
-            out,
-        );
+        let done = append_part(self.alloc, self.part, &self.arena, self.reader, unit, out);
         renew(self.alloc, &mut self.arena);
         done
     }
@@ -119,6 +112,7 @@ pub(crate) fn print_unit_lines<O: Sink>(
     sections: &Sections<'_>,
     out: &mut O,
 ) -> Result<Option<Refusal>, WriteStop>
+    requires { AreShort (sections_view sections.now) }
     ensures printed { Prints result (part_of_units parts.Line (sections_view sections.now))
         (O.held out.old) (O.held out.new) }
     ensures cause { HasCause write_stops.Failed (O.faults out.old) (O.faults out.new) result }
@@ -155,10 +149,11 @@ pub(crate) fn print_parts<'f, O: Sink>(
         (O.held out.old) (O.held out.new) }
     ensures cause { HasCause write_stops.Failed (O.faults out.old) (O.faults out.new) result }
 {
+    let mut reader = UnitReader::new(&*handle, pass);
     let mut units = UnitParts {
         alloc,
         part,
-        reader: UnitReader::new(handle, pass),
+        reader: &mut reader,
         arena: Bump::new(alloc),
     };
     print_units(alloc, &mut units, out)

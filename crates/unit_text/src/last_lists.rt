@@ -161,10 +161,7 @@ fn context_of(header: &UnitHeader, facts: &UnitFacts, offset: u64) -> ListContex
 }
 
 /// The list that was read last, if it is the one of this context. None is kept then.
-fn take_list<T: Drop>(
-    last: &mut Option<ReadList<T>>,
-    context: &ListContext,
-) -> Option<ReadList<T>>
+fn take_list<T: Drop>(last: &mut Option<ReadList<T>>, context: &ListContext) -> Option<ReadList<T>>
     ensures last { IfSome result (λ list. last.old ≡ Some list) }
     ensures context { IfSome result (λ list. list.context ≡ context.now) }
     ensures after { last.new ≡ None }

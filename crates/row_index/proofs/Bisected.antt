@@ -1,5 +1,5 @@
 -- The rows of a run, bisected, and its addresses.
-use Rattle.std.proofs.Common.{◌≡◌, ◌+◌, ◌-◌, ◌≤◌, ◌<◌, ◌∙◌, ◌&&◌, ℕ, zero, suc, Bool, true, false, not, cond, leb, nat_le, nat_lt, List, [], ◌∷◌, length, get_or, Option, Some, None, refl, sym, ap, arith}
+use Rattle.std.proofs.Common.{◌≡◌, ◌-◌, ◌≤◌, ◌<◌, ◌∙◌, ◌&&◌, ℕ, zero, suc, Bool, true, false, not, cond, leb, nat_le, nat_lt, List, [], ◌∷◌, length, get_or, Option, Some, None, refl, sym, ap, arith}
 use Rattle.std.specs.List.Sorted.{IsNonDecreasingBy, IsPartitionPoint}
 use Rattle.interval_index.specs.declared.interval.Interval.{Interval}
 use Rattle.interval_index.specs.Intervals.{has}
@@ -7,7 +7,7 @@ use Rattle.interval_index.specs.Boundaries.{Ascends}
 use Rattle.interval_index.proofs.Bisection.{non_decreasing}
 use Rattle.row_index.specs.declared.rows.KeptRow.{KeptRow}
 use Rattle.row_index.specs.Rows.{covers, row_behind, row_at}
-use Rattle.row_index.specs.Runs.{breaks, RisesBehind, Rises, last_behind, interval_of}
+use Rattle.row_index.specs.Runs.{RisesBehind, Rises, last_behind, interval_of}
 use Rattle.row_index.proofs.Cuts.{goes_on, no_lower}
 
 ascends_behind : (row : KeptRow) (rest : List KeptRow) → RisesBehind row rest → Ascends (λ (r : KeptRow). r.address) row.address rest

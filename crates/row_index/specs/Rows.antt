@@ -1,5 +1,5 @@
 -- The row that an address belongs to: DWARF 5, section 6.2.
-use Rattle.std.specs.Prelude.{ℕ, zero, suc, Bool, not, List, [], ◌∷◌, Option, Some, None, ◌&&◌, nat_le, nat_lt, if◌then◌else◌}
+use Rattle.std.specs.Prelude.{ℕ, suc, Bool, not, List, [], ◌∷◌, Option, Some, None, ◌&&◌, nat_le, nat_lt, if◌then◌else◌}
 use Rattle.std.specs.Option.{option_or, option_map}
 use Rattle.row_index.specs.declared.rows.KeptRow.{KeptRow}
 

@@ -1,9 +1,8 @@
 -- Runs of rows: stretches of one unit in which no address falls, and only the last row may end a
 -- sequence. These are rules of our own.
-use Rattle.std.specs.Prelude.{◌≡◌, ◌≤◌, ◌<◌, ◌-◌, ℕ, Bool, false, List, [], ◌∷◌, Option, None, length, take, drop, map, All, get_or, ◌||◌, nat_lt}
+use Rattle.std.specs.Prelude.{◌≡◌, ◌≤◌, ◌<◌, ◌-◌, ℕ, Bool, false, List, [], ◌∷◌, Option, None, length, take, drop, get_or, ◌||◌, nat_lt}
 use Rattle.std.specs.Option.{option_or}
 use Rattle.interval_index.specs.declared.interval.Interval.{Interval}
-use Rattle.interval_index.specs.Intervals.{first_with}
 use Rattle.row_index.specs.declared.rows.KeptRow.{KeptRow}
 use Rattle.row_index.specs.declared.runs.Run.{Run}
 use Rattle.row_index.specs.Rows.{row_at, of_unit}

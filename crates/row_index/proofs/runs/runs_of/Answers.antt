@@ -1,6 +1,5 @@
-use Rattle.std.proofs.Common.{arith, map, sym, ap, ◌∙◌, ◌<◌, length, subst}
+use Rattle.std.proofs.Common.{arith, map, sym, ap, ◌∙◌, ◌<◌, length}
 use Rattle.std.proofs.lemmas.List.{length-map}
-use Rattle.row_index.specs.declared.rows.KeptRow.{KeptRow}
 use Rattle.row_index.proofs.Splitting.{told_next, unit_is}
 use Rattle.row_index.proofs.runs.runs_of.Goals as goal
 

@@ -10,12 +10,12 @@ use Rattle.map_core.specs.History.{is_in, by_any, StartsWithOwn}
 use Rattle.map_core.specs.Places.{key_place, value_place, IsCell}
 use Rattle.map_core.specs.Machine.{IsWord, Keeps, State, IsUnset}
 use Rattle.map_core.specs.Events.{entry, WritesWord}
-use Rattle.map_core.specs.Passes.{look, cell, drop_claim, all_numbers, placed, AllBy, PassAt, Turn}
+use Rattle.map_core.specs.Passes.{look, cell, drop_claim, all_numbers, placed, HasFilled, AllBy, PassAt, Turn}
 use Rattle.map_core.specs.Knowing.{all_but_first, sees, reads, grabs, places, counts_seen, tallies, settles}
 use Rattle.map_core.proofs.PlaceLemmas.{key_key, value_value, key_value, value_key}
 use Rattle.map_core.proofs.WordLemmas.{keeps_at}
 use Rattle.map_core.proofs.HistoryLemmas.{by_hit, by_append}
-use Rattle.map_core.proofs.PassLemmas.{keeps_trans, own_whole, own_grows, in_first}
+use Rattle.map_core.proofs.PassLemmas.{keeps_trans, own_whole, own_grows, own_length, filled_longer, in_first}
 
 pub look_hit : (known : List (ℕ × ℕ)) (q n x : ℕ) → q ≡ x → look ((q, n) ∷ known) x ≡ n
 look_hit known q n x is = subst (λ (b : Bool). (if b then n else look known x) ≡ n) (sym (eq-eqb q x is)) refl
@@ -66,6 +66,18 @@ drop_own o g i =
     (λ (e : o ≡ Some (cell g i)). ap (λ (x : Option Cell). drop_claim x g i) e ∙ subst (λ (b : Bool). (if (b && (i == i)) then None else Some (cell g i)) ≡ None) (sym (eq-eqb g g refl)) (subst (λ (b : Bool). (if b then None else Some (cell g i)) ≡ None) (sym (eq-eqb i i refl)) refl))
 
 module _ (l : Layout) (mark : List ℕ) (s : State) (i : ℕ) (v : View) (live : v.live ≡ true) (p : PassAt l mark s i v) where
+  -- the whole history fills what the pass's front did, also with entries added
+  filled_now : (added log : List Entry) → s.history ++ added ≡ log → HasFilled l v.generation log
+  filled_now added log grows =
+      let n : ℕ = length s.history in
+      let m : ℕ = length added in
+      let k : ℕ = length log in
+      let sum : length (s.history ++ added) ≡ n + m = length-append s.history added in
+      let same : k ≡ n + m = sym (ap (λ (x : List Entry). length x) grows) ∙ sum in
+      let old : length v.front ≤ n = own_length v.numbers v.front s.history p.front in
+      let low : length v.front ≤ k = omega arith in
+      filled_longer l v.generation v.front log low p.filled
+
   -- any new view of what was so already
   module _ (w : View) (known : Keeps (look w.known) s.cells) (front : w.front ≡ s.history)
       (same : (w.number ≡ v.number) × (w.layout ≡ v.layout) × (w.tag ≡ v.tag) × (w.numbers ≡ v.numbers) × (w.beside ≡ v.beside) × (w.beside_numbers ≡ v.beside_numbers) × (w.spare ≡ v.spare) × (w.generation ≡ v.generation) × (w.currents ≡ v.currents) × (w.live ≡ v.live))
@@ -87,6 +99,7 @@ module _ (l : Layout) (mark : List ℕ) (s : State) (i : ℕ) (v : View) (live :
           count_seen = count;
           generation = subst (λ (x : ℕ × List ℕ). is_in x.0 x.1 ≡ true) (λ k. (sym same.7 k, sym same.8 k)) p.generation;
           currents = λ c h. p.currents c (subst (λ (x : List ℕ). is_in c x ≡ true) same.8 h);
+          filled = subst (λ (x : ℕ × List Entry). HasFilled l x.0 x.1) (λ k. (sym same.7 k, sym front k)) (filled_now [] s.history (append-nil s.history));
         }
 
     pub stays_turn : ((g j : ℕ) → IsCell l g j → IsUnset l s.cells g j → (w.claim ≡ Some (cell g j)) ⊎ (v.claim ≢ Some (cell g j))) → Turn l mark s s i v w
@@ -155,6 +168,7 @@ module _ (l : Layout) (mark : List ℕ) (s : State) (i : ℕ) (v : View) (live :
         count_seen = subst (λ (x : ℕ). v.count_seen ≤ x) (sym wr.count) p.count_seen;
         generation = p.generation;
         currents = λ c h. let b = p.currents c h in (b.0, subst (λ (x : ℕ). c ≤ x) (sym wr.current) b.1);
+        filled = filled_now [] t.history (append-nil s.history ∙ sym log);
       } in
       record {
         keeps = keeps;
@@ -220,6 +234,7 @@ module _ (l : Layout) (mark : List ℕ) (s : State) (i : ℕ) (v : View) (live :
         count_seen = subst (λ (c : ℕ). v.count_seen ≤ c) (sym wr.count) p.count_seen;
         generation = p.generation;
         currents = λ c h. let b = p.currents c h in (b.0, subst (λ (d : ℕ). c ≤ d) (sym wr.current) b.1);
+        filled = filled_now (e ∷ []) t.history (sym log);
       } in
       record {
         keeps = keeps;
@@ -271,6 +286,7 @@ module _ (l : Layout) (mark : List ℕ) (s : State) (i : ℕ) (v : View) (live :
         count_seen = omega arith;
         generation = p.generation;
         currents = λ c h. let b = p.currents c h in (b.0, subst (λ (d : ℕ). c ≤ d) (sym current) b.1);
+        filled = filled_now [] t.history (append-nil s.history ∙ sym log);
       } in
       record {
         keeps = keeps;
@@ -315,6 +331,7 @@ module _ (l : Layout) (mark : List ℕ) (s : State) (i : ℕ) (v : View) (live :
         count_seen = p.count_seen;
         generation = p.generation;
         currents = p.currents;
+        filled = filled_now [] s.history (append-nil s.history);
       } in
       record {
         keeps = λ q h. refl;

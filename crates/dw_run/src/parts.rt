@@ -13,11 +13,11 @@ use bumpalo::Bump;
 use elf_sections::Sections;
 use entry_tree::{Entry, read_entries, root_facts};
 use form_values::UnitFacts;
-use line_programs::PathTexts;
-use line_text::write_lines_with;
+use line_text::{LineTables, write_lines_with};
 use std::alloc::Global;
+use std::marker::Model;
 use unit_headers::{UnitHeader, UnitRefusal};
-use unit_text::{write_lists, write_unit, write_unit_line};
+use unit_text::{LastLists, write_lists_with, write_unit, write_unit_line};
 
 /// A part of a unit.
 #[derive(Clone, Copy, Debug, PartialEq, Eq)]
@@ -30,6 +30,36 @@ pub enum Part {
     LineTable,
     /// The range lists and location lists of all entries.
     Lists,
+}
+
+/// The sections of a file, with the line table and the lists that were read last.
+#[derive(Drop)]
+pub(crate) struct LastRead<'f> {
+    tables: LineTables<'f>,
+    lists: LastLists<'f>,
+}
+
+impl<'f> Model for LastRead<'f> {
+    ghost use Rattle.std.specs.Prelude.{◌≡◌};
+    ghost use Rattle.elf_sections.specs.Shapes.{SectionsView};
+
+    ghost Value = { SectionsView };
+
+    ghost view = { λ r. r.tables };
+
+    ghost invariant = { λ r. r.lists ≡ r.tables };
+}
+
+impl<'f> LastRead<'f> {
+    /// These sections, of which nothing was read yet.
+    pub(crate) fn new(sections: &Sections<'f>) -> LastRead<'f>
+        ensures { result ≡ sections_view sections.entry.now }
+    {
+        LastRead {
+            tables: LineTables::new(sections),
+            lists: LastLists::new(sections),
+        }
+    }
 }
 
 /// Appends this part of the unit of a header, which is one of these sections. The unit's entries
@@ -50,27 +80,27 @@ pub fn append_part(
     ensures { Writes result out.old.items out.new.items
         (part_of part (sections_view sections.now) header.now) }
 {
-    let mut texts = PathTexts::new(sections);
-    append_part_with(alloc, part, arena, sections, &mut texts, header, out)
+    let mut last = LastRead::new(sections);
+    append_part_with(alloc, part, arena, sections, &mut last, header, out)
 }
 
-/// The same, with the finder of the texts of paths that the file's other units were read with.
+/// The same, with what was read last for the file's other units.
 #[tactic(auto, unfolding(crate::specs::Parts::part_of))]
 pub(crate) fn append_part_with(
     alloc: Global,
     part: Part,
     arena: &Bump,
     sections: &Sections<'_>,
-    texts: &mut PathTexts<'_>,
+    last: &mut LastRead<'_>,
     header: &UnitHeader,
     out: &mut Vec<u8>,
 ) -> Result<(), UnitRefusal>
     requires unit { IsUnitOf (sections_view sections.now) header.now }
     requires short { AreShort (sections_view sections.now) }
-    requires texts { texts.old ≡ sections_view sections.now }
+    requires last { last.old ≡ sections_view sections.now }
     ensures text { Writes result out.old.items out.new.items
         (part_of part (sections_view sections.now) header.now) }
-    ensures texts { texts.new ≡ texts.old }
+    ensures last { last.new ≡ last.old }
 {
     match part {
         Part::Line => Ok(write_unit_line(alloc, header, out)?),
@@ -80,11 +110,11 @@ pub(crate) fn append_part_with(
         }
         Part::LineTable => {
             let facts = read_facts(sections, header)?;
-            write_lines_with(alloc, texts, header, &facts, out)
+            write_lines_with(alloc, &mut last.tables, header, &facts, out)
         }
         Part::Lists => {
             let (facts, entries) = read_unit(arena, sections, header)?;
-            write_lists(alloc, sections, header, &facts, entries, out)
+            write_lists_with(alloc, &mut last.lists, header, &facts, entries, out)
         }
     }
 }

@@ -7,25 +7,24 @@ ghost use Rattle.elf_sections.specs.Shapes.{AreShort, sections_view};
 ghost use Rattle.dw_run.specs.CommandTexts.{Prints};
 ghost use Rattle.dw_run.specs.Parts.{part_of_units, units_of};
 
-use crate::parts::{Part, append_part_with};
+use crate::parts::{LastRead, Part, append_part_with};
 use crate::refusals::Refusal;
 use crate::unit_texts::{UnitTexts, print_units};
 use bumpalo::Bump;
 use dw_outside::{Sink, WriteStop};
 use elf_sections::Sections;
-use line_programs::PathTexts;
 use std::alloc::Global;
 use std::marker::Model;
 use unit_headers::{UnitIndex, UnitRefusal};
 
-/// A part of each unit of a file. The entries of one unit at a time lie in the arena; the finder of
-/// the texts of paths is one for all units.
+/// A part of each unit of a file. The entries of one unit at a time lie in the arena; what was read
+/// last is kept from unit to unit.
 #[derive(Drop)]
 struct UnitParts<'f> {
     alloc: Global,
     part: Part,
     sections: Sections<'f>,
-    texts: PathTexts<'f>,
+    last: LastRead<'f>,
     index: UnitIndex<'f>,
     arena: Bump,
 }
@@ -40,7 +39,7 @@ impl<'f> Model for UnitParts<'f> {
     ghost view = { λ u. record { part = u.part; sections = sections_view u.sections } };
 
     ghost invariant = { λ u. (u.index ≡ units_of (sections_view u.sections))
-        × AreShort (sections_view u.sections) × (u.texts ≡ sections_view u.sections) };
+        × AreShort (sections_view u.sections) × (u.last ≡ sections_view u.sections) };
 }
 
 impl<'f> UnitParts<'f> {
@@ -53,7 +52,7 @@ impl<'f> UnitParts<'f> {
         UnitParts {
             alloc,
             part,
-            texts: PathTexts::new(&sections),
+            last: LastRead::new(&sections),
             sections,
             index,
             arena: Bump::new(alloc),
@@ -81,7 +80,7 @@ impl<'f> UnitTexts for UnitParts<'f> {
             self.part,
             &self.arena,
             &self.sections,
-            &mut self.texts,
+            &mut self.last,
             &header,
             out,
         );

@@ -1,5 +1,5 @@
 -- Each step keeps the rule, and tells what its call ensures.
-use Rattle.std.proofs.Common.{◌≡◌, ℕ, ◌+◌, ◌<◌, ◌≤◌, true, List, [], ◌∷◌, length, set, slice_index, Some, if◌then◌else◌, ◌==◌, refl, sym, ap, subst, ◌∙◌, arith}
+use Rattle.std.proofs.Common.{◌≡◌, ℕ, ◌+◌, ◌<◌, ◌≤◌, true, List, [], ◌∷◌, length, set, slice_index, Some, None, if◌then◌else◌, ◌==◌, refl, sym, ap, subst, ◌∙◌, arith}
 use Rattle.std.proofs.lemmas.List.{set-get_or}
 use mathlib.Core.Option.{some, none}
 use lib.ListN.{get_elem?}
@@ -10,13 +10,13 @@ use Rattle.map_core.specs.declared.entry.Entry.{Entry}
 use Rattle.map_core.specs.declared.view.View.{View}
 use Rattle.map_core.specs.History.{value_in, by_any, StartsWithOwn}
 use Rattle.map_core.specs.declared.places.TheConstants.{COUNT_WORD}
-use Rattle.map_core.specs.Places.{offset, word_count, key_place, value_place, cells_in, IsCell}
-use Rattle.map_core.specs.Machine.{greatest, IsWord, state_of, Sound}
+use Rattle.map_core.specs.Places.{offset, word_count, key_place, value_place, current_in, cells_in, IsCell}
+use Rattle.map_core.specs.Machine.{greatest, IsWord, Reaches, IsClosed, IsPublished, state_of, Sound}
 use Rattle.map_core.specs.Events.{Event, IsStep, Lawful}
 use Rattle.map_core.specs.Passes.{look, cell, drop_claim, all_numbers, placed, PassAt, Together, Turn, PassFacts}
 use Rattle.map_core.specs.Knowing.{sees, reads, counts_seen}
 use Rattle.map_core.proofs.PlaceLemmas.{value_value}
-use Rattle.map_core.proofs.WordLemmas.{reaches_on, keeps_value}
+use Rattle.map_core.proofs.WordLemmas.{reaches_on, keeps_value, closed_on, published_on}
 use Rattle.map_core.proofs.CallLemmas.{own_stays}
 use Rattle.map_core.proofs.SoundLemmas.{lawful_sound}
 use Rattle.map_core.proofs.PassLemmas.{turns, there_below}
@@ -25,7 +25,7 @@ use Rattle.map_core.proofs.CountLemmas.{log_small, total_le}
 use Rattle.map_core.proofs.FactLemmas.{whole_facts}
 use Rattle.map_core.proofs.AbsentLemmas.{absent_at_empty, absent_unset}
 use Rattle.map_cells.specs.declared.about.About.{About}
-use Rattle.map_cells.specs.Steps.{Looks}
+use Rattle.map_cells.specs.Steps.{ClosedTo, Looks}
 use Rattle.map_cells.specs.Whole.{MakesStep}
 use Rattle.map_cells.specs.Rule.{TableHolds, KeyLooked, ValueLooked, CountLooked}
 use Rattle.map_cells.proofs.WordSteps.{same_place}
@@ -40,6 +40,31 @@ module _ (fits : List ℕ → ℕ → ℕ → Type 0) (t : Tag) (id : ℕ) (v : 
 
   pub pass_now : PassAt v.layout t.numbers (state_of v.layout s.words kept.log) id v
   pass_now = kept.together.fronts.each id v at live
+
+  -- what is seen closed from a generation that was current is so
+  pub closed_now : (g k : ℕ) → 0 < k → (seen : ClosedTo v g k) → (h : ℕ) → seen.from ≤ h → h < g → IsClosed v.layout (cells_in v.layout s.words) h k
+  closed_now g k pos seen h low below = closed_on v.layout (look v.known) (cells_in v.layout s.words) pass_now.knows h k pos (seen.closed h low below)
+
+  pub from_now : (g k : ℕ) → (seen : ClosedTo v g k) → seen.from ≤ current_in v.layout s.words
+  from_now g k seen = (pass_now.currents seen.from seen.current).1
+
+  -- where a walk ends at an empty key word, the history lacks the key
+  pub lacks_at_empty : (g i k : ℕ) → IsCell v.layout g i → IsWord k → cells_in v.layout s.words (key_place v.layout g i) ≡ 0 → Reaches v.layout (look v.known) g i k → ClosedTo v g k → value_in kept.log k ≡ None
+  lacks_at_empty g i k a word empty walk seen =
+      absent_at_empty v.layout (fits t.numbers) (state_of v.layout s.words kept.log) sound_now g k seen.from word (from_now g k seen) (closed_now g k word.0 seen) i a empty
+      (reaches_on v.layout (look v.known) (cells_in v.layout s.words) pass_now.knows g i k walk)
+
+  -- and where it ends at its key with no value
+  pub lacks_unset : (g i k : ℕ) → IsCell v.layout g i → IsWord k → cells_in v.layout s.words (key_place v.layout g i) ≡ k → cells_in v.layout s.words (value_place v.layout g i) ≡ 0 → ClosedTo v g k → value_in kept.log k ≡ None
+  lacks_unset g i k a word key unset seen =
+      absent_unset v.layout (fits t.numbers) (state_of v.layout s.words kept.log) sound_now g k seen.from word (from_now g k seen) (closed_now g k word.0 seen) i a key unset
+
+  -- the history has what is seen published
+  pub has_seen : (h k x : ℕ) → IsPublished v.layout (look v.known) h k x → value_in kept.log k ≡ Some x
+  has_seen h k x seen =
+      let p = published_on v.layout (look v.known) (cells_in v.layout s.words) pass_now.knows h k x seen in
+      subst (λ (y : ℕ × ℕ). value_in kept.log y.0 ≡ Some y.1) (λ z. (p.key_is z, p.value_is z))
+      (sound_now.history.kept h p.index p.cell (subst IsWord (sym p.key_is) p.key) (subst IsWord (sym p.value_is) p.value))
 
   -- the rule after a turn
   pub keep_turn : (ws : List ℕ) (log : List Entry) (events : List Event) (w : View) → Lawful v.layout (fits t.numbers) events (state_of v.layout ws log) → length ws ≡ word_count v.layout
@@ -138,7 +163,7 @@ module _ (fits : List ℕ → ℕ → ℕ → Type 0) (t : Tag) (slots id : ℕ)
                 same_count = refl;
                 word = look_hit v.known p n (key_place v.layout h j) same;
                 unsealed = λ last. subst (λ (x : ℕ). x < greatest) (ap (λ (x : ℕ). C (key_place v.layout x j)) (sym last) ∙ there) (so.cells.last_open j (subst (λ (x : ℕ). j < Rattle.map_core.specs.Sizes.cells_of x) last b.1)).0;
-                absent = λ k word empty walk closed. absent_at_empty v.layout C (fits t.numbers) kept.log so.cells so.history h j k b (there ∙ empty) (reaches_on v.layout (look v.known) C here.knows h j k walk);
+                absent = λ k word empty walk closed. lacks_at_empty fits t id v facts.live s kept at h j k b word (there ∙ empty) walk closed;
               };
         },
       )
@@ -172,7 +197,7 @@ module _ (fits : List ℕ → ℕ → ℕ → Type 0) (t : Tag) (slots id : ℕ)
                 same_count = refl;
                 word = look_hit v.known p n (value_place v.layout h j) same;
                 unclosed = λ last. subst (λ (x : ℕ). x < greatest) (ap (λ (x : ℕ). C (value_place v.layout x j)) (sym last) ∙ there) (so.cells.last_open j (subst (λ (x : ℕ). j < Rattle.map_core.specs.Sizes.cells_of x) last b.1)).1;
-                absent = λ k word unset key closed. absent_unset v.layout C (fits t.numbers) kept.log so.cells so.history h j k b word (keeps_value (look v.known) C here.knows (key_place v.layout h j) k word.0 key) (there ∙ unset);
+                absent = λ k word unset key closed. lacks_unset fits t id v facts.live s kept at h j k b word (keeps_value (look v.known) C here.knows (key_place v.layout h j) k word.0 key) (there ∙ unset) closed;
                 present = λ k word value key.
                     let key_there = keeps_value (look v.known) C here.knows (key_place v.layout h j) k word.0 key in
                     subst (λ (x : ℕ × ℕ). value_in kept.log x.0 ≡ Some x.1) (λ x. (key_there x, there x)) (so.history.kept h j b (subst IsWord (sym key_there) word) (subst IsWord (sym there) value));

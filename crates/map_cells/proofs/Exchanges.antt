@@ -1,6 +1,7 @@
 -- Exchanges, the addition to the count and the end of a join keep the rule, and tell what their calls ensure.
-use Rattle.std.proofs.Common.{◌≡◌, ◌≢◌, ℕ, ◌+◌, ◌%◌, ◌^◌, ◌<◌, ◌≤◌, Bool, true, List, [], ◌∷◌, ◌++◌, length, set, slice_index, Some, None, if◌then◌else◌, ◌==◌, refl, sym, ap, subst, ◌∙◌, inl, inr, ⊎_elim, arith, length-set, mod-eq_of_lt, append_assoc, ne_eqb, get_or-set_other, get_or-set_same}
-use mathlib.Core.Option.{none}
+use Rattle.std.proofs.Common.{◌≡◌, ◌≢◌, ℕ, ◌+◌, ◌%◌, ◌^◌, ◌<◌, ◌≤◌, Bool, true, false, List, [], ◌∷◌, ◌++◌, length, set, slice_index, Some, None, if◌then◌else◌, ◌==◌, refl, sym, ap, subst, ◌∙◌, inl, inr, ⊎_elim, arith, length-set, mod-eq_of_lt, append_assoc, ne_eqb, get_or-set_other, get_or-set_same}
+use mathlib.Core.Option.{some, none}
+use lib.ListN.{get_elem?}
 use prog.Atomic.{either}
 use Rattle.boxcar.specs.declared.tag.Tag.{Tag}
 use Rattle.atomic_table.proofs.Lists.{set_here, exchanged}
@@ -12,30 +13,22 @@ use Rattle.map_core.specs.Sizes.{cells_of}
 use Rattle.map_core.specs.History.{value_in, by_any}
 use Rattle.map_core.specs.declared.places.TheConstants.{CURRENT_WORD, COUNT_WORD}
 use Rattle.map_core.specs.Places.{lowest, offset, word_count, key_place, value_place, current_in, count_in, cells_in, IsCell}
-use Rattle.map_core.specs.Machine.{greatest, IsWord, Keeps, state_of, Reaches, IsClosed, IsPublished, IsSettled}
+use Rattle.map_core.specs.Machine.{greatest, IsWord, Keeps, state_of, Reaches, IsPublished, IsSettled}
 use Rattle.map_core.specs.Events.{claims, publishes, counts, entry, and_then, WritesWord, IsStep}
 use Rattle.map_core.specs.Calls.{own}
 use Rattle.map_core.specs.Passes.{look, drop_claim, total, PassFacts}
 use Rattle.map_core.specs.Knowing.{all_but_first, sees, reads, grabs, places, tallies, settles}
 use Rattle.map_core.proofs.PlaceLemmas.{key_key, value_value}
-use Rattle.map_core.proofs.WordLemmas.{keeps_at, reaches_on, keeps_value, closed_on, published_on}
+use Rattle.map_core.proofs.WordLemmas.{keeps_at, reaches_on, keeps_value, settled_on}
 use Rattle.map_core.proofs.HistoryLemmas.{by_append, by_hit}
 use Rattle.map_core.proofs.CallLemmas.{own_stays}
 use Rattle.map_core.proofs.PassLemmas.{keeps_trans, there_below, turns}
-use Rattle.map_core.proofs.TurnLemmas.{look_hit, seen_more, sees_turn, reads_turn, grabs_turn, places_turn, tallies_turn, settles_turn}
+use Rattle.map_core.proofs.TurnLemmas.{look_hit, seen_more, sees_turn, reads_turn, grabs_turn, value_turn, places_turn, tallies_turn, settles_turn}
 use Rattle.map_core.proofs.CountLemmas.{log_small, total_le, count_le}
-use Rattle.map_core.proofs.AbsentLemmas.{absent_unset}
-use Rattle.map_cells.specs.Steps.{ClosedTo, SettledTo, MayPublish, KeyTried, ValueTried}
+use Rattle.map_cells.specs.Steps.{ClosedTo, SettledTo, StepFrame, MayPublish, KeyTried, ValueTried}
 use Rattle.map_cells.specs.Rule.{TableHolds, Claimed, Published, Counted, Settled}
 use Rattle.map_cells.proofs.WordSteps.{most_words, words_small, has_count, key_within, value_within, same_place, writes_word, count_cells}
-use Rattle.map_cells.proofs.Allowed.{about, sound_now, pass_now, keep_turn, turn_facts, made, keep_load, load_facts, saw}
-
--- what is seen settled is so
-settled_on : (l : Layout) (C D : ℕ → ℕ) → Keeps C D → (g k : ℕ) → 0 < k → IsSettled l C g k → IsSettled l D g k
-settled_on l C D keep g k pos =
-    ⊎_elim
-    (λ (c : IsClosed l C g k). inl (closed_on l C D keep g k pos c))
-    (λ (p : (x : ℕ) × IsPublished l C g k x). inr (p.0, published_on l C D keep g k p.0 p.1))
+use Rattle.map_cells.proofs.Allowed.{about, sound_now, pass_now, lacks_unset, has_seen, keep_turn, turn_facts, made, keep_load, load_facts, saw}
 
 module _ (fits : List ℕ → ℕ → ℕ → Type 0) (t : Tag) (slots id : ℕ) (v : View) (c : List (ℕ × Unit {0})) (facts : PassFacts fits v) where
   -- what an exchange of the word q for x owes where it leaves y
@@ -63,7 +56,7 @@ module _ (fits : List ℕ → ℕ → ℕ → Type 0) (t : Tag) (slots id : ℕ)
       let is_step : IsStep l (fits t.numbers) (claims g i k) (state_of l s.words kept.log) (state_of l ws kept.log) = record { cell = a; key = word; reached = reaches_on l (look v.known) C here.knows g i k walk; settled = settle; word = wr; history = refl } in
       let lawful = and_then kept.events (state_of l s.words kept.log) (claims g i k) (state_of l ws kept.log) kept.lawful is_step in
       let w : View = grabs l v kept.log g i k in
-      let turn = grabs_turn l t.numbers (state_of l s.words kept.log) id v facts.live here (state_of l ws kept.log) g i k a word free wr refl in
+      let turn = grabs_turn l t.numbers (state_of l s.words kept.log) id v facts.live here (state_of l ws kept.log) g i k a free wr refl in
       let size : length ws ≡ word_count l = length-set s.words q k ∙ kept.size in
       let D : ℕ → ℕ = cells_in l ws in
       let knows : Keeps (look v.known) D = keeps_trans (look v.known) C D here.knows (keeps_at p C D wr.was wr.only) in
@@ -126,6 +119,13 @@ module _ (fits : List ℕ → ℕ → ℕ → Type 0) (t : Tag) (slots id : ℕ)
   claim_allowed g i k q a place word free walk settled =
       subst (λ (x : ℕ). Allows (TableHolds fits (about v t)) slots id (v, c) x (λ n. either (n == 0) k n) (Claimed fits (step slots x 0 k none) (v, c))) (sym place) (claim_at g i k a word free walk settled)
 
+  -- a pair that is seen published, and one that fits and whose key is seen closed below: where both hold, the value word is set
+  never_both : (s : State (Unit {0}) View) (kept : TableHolds fits (about v t) s) → get_elem? s.views id ≡ some v → (g i k x h : ℕ) → IsCell v.layout g i → IsWord k → look v.known (key_place v.layout g i) ≡ k
+      → IsPublished v.layout (look v.known) h k x → ClosedTo v g k → cells_in v.layout s.words (value_place v.layout g i) ≢ 0
+  never_both s kept at g i k x h a word key seen closed unset =
+      let key_there = keeps_value (look v.known) (cells_in v.layout s.words) (pass_now fits t id v facts.live s kept at).knows (key_place v.layout g i) k word.0 key in
+      let bad : None ≡ Some x = sym (lacks_unset fits t id v facts.live s kept at g i k a word key_there unset closed) ∙ has_seen fits t id v facts.live s kept at h k x seen in absurd (cc)
+
   publish_at : (g i k x : ℕ) → IsCell v.layout g i → IsWord k → IsWord x → look v.known (key_place v.layout g i) ≡ k → MayPublish fits g k x v
       → Allows (TableHolds fits (about v t)) slots id (v, c) (value_place v.layout g i + offset v.layout) (λ n. either (n == 0) x n) (Published fits (step slots (value_place v.layout g i + offset v.layout) 0 x none) (v, c))
   publish_at g i k x a word value key may s kept homes at small =
@@ -139,11 +139,7 @@ module _ (fits : List ℕ → ℕ → ℕ → Type 0) (t : Tag) (slots id : ℕ)
       let low : q < length s.words = subst (λ (y : ℕ). q < y) (sym kept.size) (value_within l g i a) in
       let key_there : C (key_place l g i) ≡ k = keeps_value (look v.known) C here.knows (key_place l g i) k word.0 key in
       let mine = here.front in
-      let seen_before : (h : ℕ) → IsPublished l (look v.known) h k x → n ≢ 0 = λ h p zero_there.
-      let lacks : value_in kept.log k ≡ None = absent_unset l C (fits t.numbers) kept.log so.cells so.history g i k a word key_there zero_there in
-      let q = published_on l (look v.known) C here.knows h k x p in
-      let has : value_in kept.log k ≡ Some x = subst (λ (y : ℕ × ℕ). value_in kept.log y.0 ≡ Some y.1) (λ z. (q.key_is z, q.value_is z)) (so.history.kept h q.index q.cell (subst IsWord (sym q.key_is) q.key) (subst IsWord (sym q.value_is) q.value)) in
-      let bad : None ≡ Some x = sym lacks ∙ has in absurd (cc) in
+      let both_set : (h : ℕ) → IsPublished l (look v.known) h k x → ClosedTo v g k → n ≢ 0 = λ h p closed. never_both s kept at g i k x h a word key p closed in
       let spread : (w : View) → ValueTried fits g i k x n v w → (h j m : ℕ) → IsCell l h j → q ≡ value_place l h j + offset l → IsWord m → look v.known (key_place l h j) ≡ m → ValueTried fits h j m x n v w = λ w tried h j m b at_q word_m key_m.
       let one = value_value l g i h j a b (same_place l p (value_place l h j) at_q) in
       let same : k ≡ m = sym key ∙ (ap (λ (y : ℕ × ℕ). look v.known (key_place l y.0 y.1)) (λ z. (one.0 z, one.1 z)) ∙ key_m) in
@@ -152,20 +148,60 @@ module _ (fits : List ℕ → ℕ → ℕ → Type 0) (t : Tag) (slots id : ℕ)
       (λ zero_there.
       let ws : List ℕ = set s.words q x in
       let e : Entry = entry v.number k x in
-      let log : List Entry = kept.log ++ e ∷ [] in
-      let wr : WritesWord p 0 x (state_of l s.words kept.log) (state_of l ws log) = subst (λ (y : ℕ). WritesWord p y x (state_of l s.words kept.log) (state_of l ws log)) zero_there (writes_word l s.words kept.log log p x low) in
-      let lacks : value_in kept.log k ≡ None = absent_unset l C (fits t.numbers) kept.log so.cells so.history g i k a word key_there zero_there in
-      let fit_now : fits t.numbers k x = ⊎_elim
-      (λ (p : (h : ℕ) × IsPublished l (look v.known) h k x). absurd (seen_before p.0 p.1 zero_there))
-      (λ (p : fits v.tag k x × ClosedTo v g k). subst (λ (y : List ℕ). fits y k x) here.tag p.0)
-      may in
-      let is_step : IsStep l (fits t.numbers) (publishes v.number g i k x) (state_of l s.words kept.log) (state_of l ws log) = record { cell = a; key = word; value = value; stands = key_there; word = wr; adds = inr (lacks, fit_now, refl) } in
-      let lawful = and_then kept.events (state_of l s.words kept.log) (publishes v.number g i k x) (state_of l ws log) kept.lawful is_step in
-      let w : View = places l v log g i x e in
-      let turn = places_turn l t.numbers (state_of l s.words kept.log) id v facts.live here (state_of l ws log) g i k x a value.0 facts.alone.1 wr refl in
       let size : length ws ≡ word_count l = length-set s.words q x ∙ kept.size in
       let D : ℕ → ℕ = cells_in l ws in
-      let knows : Keeps (look v.known) D = keeps_trans (look v.known) C D here.knows (keeps_at p C D wr.was wr.only) in
+      let writes : (log : List Entry) → WritesWord p 0 x (state_of l s.words kept.log) (state_of l ws log) = λ log. subst (λ (y : ℕ). WritesWord p y x (state_of l s.words kept.log) (state_of l ws log)) zero_there (writes_word l s.words kept.log log p x low) in
+      let knows : Keeps (look v.known) D = keeps_trans (look v.known) C D here.knows (keeps_at p C D (writes kept.log).was (writes kept.log).only) in
+      let sees_more : (y : ℕ) → 0 < look v.known y → look ((p, x) ∷ v.known) y ≡ look v.known y = λ y h. seen_more v.known D p x y (writes kept.log).is knows h in
+      ⊎_elim
+      (λ (there : (h : ℕ) × IsPublished l (look v.known) h k x).
+      let has : value_in kept.log k ≡ Some x = has_seen fits t id v facts.live s kept at there.0 k x there.1 in
+      let is_step : IsStep l (fits t.numbers) (publishes v.number g i k x) (state_of l s.words kept.log) (state_of l ws kept.log) = record { cell = a; key = word; value = value; stands = key_there; word = writes kept.log; adds = inl (has, refl) } in
+      let lawful = and_then kept.events (state_of l s.words kept.log) (publishes v.number g i k x) (state_of l ws kept.log) kept.lawful is_step in
+      let w : View = reads l v kept.log g i x in
+      let turn = value_turn l t.numbers (state_of l s.words kept.log) id v facts.live here (state_of l ws kept.log) g i x a value.0 (writes kept.log) refl in
+      let steps : StepFrame v w = record {
+        layout = refl;
+        tag = refl;
+        number = refl;
+        numbers = refl;
+        spare = refl;
+        generation = refl;
+        currents = refl;
+        front = record { rest = mine.rest; joins = mine.joins };
+        seen = sees_more;
+        count_seen = omega arith;
+      } in
+      let set_now : (x == 0) ≡ false = ne_eqb x 0 (λ z. let pos = value.0 in omega arith) in
+      let tried : ValueTried fits g i k x n v w = record {
+        steps = steps;
+        facts = turn_facts fits t id v facts.live s kept at ws kept.log (publishes v.number g i k x ∷ kept.events) w lawful size turn refl facts.alone.0 facts.alone.1;
+        counted = refl;
+        same_count = refl;
+        claim = ap (λ (b : Bool). if b then v.claim else drop_claim v.claim g i) set_now;
+        unclosed = λ last. omega arith;
+        won = λ z fit closed. absurd (both_set there.0 there.1 closed z);
+        kept = λ z h q. record { looks = record { steps = steps; mine = mine; own = own_stays v kept.log mine }; uncounted = refl };
+        set = λ z. look_hit v.known p x p refl;
+        event = λ z. made fits t id v facts.live s kept at (publishes v.number g i k x) ws kept.log w is_step turn;
+        lost = λ nz. absurd (nz zero_there);
+        present = λ y. let pos = y.0 in absurd (omega arith);
+        both = λ h p fit closed. both_set h p closed;
+      } in (
+        w,
+        keeps,
+        tt,
+        keep_turn fits t id v facts.live s kept at ws kept.log (publishes v.number g i k x ∷ kept.events) w lawful size turn,
+        record { slots = refl; tried = spread w tried },
+      ))
+      (λ (new : fits v.tag k x × ClosedTo v g k).
+      let log : List Entry = kept.log ++ e ∷ [] in
+      let lacks : value_in kept.log k ≡ None = lacks_unset fits t id v facts.live s kept at g i k a word key_there zero_there new.1 in
+      let fit_now : fits t.numbers k x = subst (λ (y : List ℕ). fits y k x) here.tag new.0 in
+      let is_step : IsStep l (fits t.numbers) (publishes v.number g i k x) (state_of l s.words kept.log) (state_of l ws log) = record { cell = a; key = word; value = value; stands = key_there; word = writes log; adds = inr (lacks, fit_now, refl) } in
+      let lawful = and_then kept.events (state_of l s.words kept.log) (publishes v.number g i k x) (state_of l ws log) kept.lawful is_step in
+      let w : View = places l v log g i x e in
+      let turn = places_turn l t.numbers (state_of l s.words kept.log) id v facts.live here (state_of l ws log) g i k x a value.0 facts.alone.1 (writes log) refl in
       let tried : ValueTried fits g i k x n v w = record {
         steps = record {
           layout = refl;
@@ -176,7 +212,7 @@ module _ (fits : List ℕ → ℕ → ℕ → Type 0) (t : Tag) (slots id : ℕ)
           generation = refl;
           currents = refl;
           front = record { rest = mine.rest ++ e ∷ []; joins = sym (append_assoc v.front mine.rest (e ∷ [])) ∙ ap (λ (y : List Entry). y ++ e ∷ []) mine.joins };
-          seen = λ y h. seen_more v.known D p x y wr.is knows h;
+          seen = sees_more;
           count_seen = omega arith;
         };
         facts = turn_facts fits t id v facts.live s kept at ws log (publishes v.number g i k x ∷ kept.events) w lawful size turn refl facts.alone.0 facts.alone.1;
@@ -189,12 +225,12 @@ module _ (fits : List ℕ → ℕ → ℕ → Type 0) (t : Tag) (slots id : ℕ)
           own = by_append v.numbers kept.log (e ∷ []) ∙ ((λ y. own_stays v kept.log mine y ++ by_any v.numbers (e ∷ [])) ∙ ap (λ (y : List Entry). own v ++ y) (by_hit v.numbers e [] facts.own));
           uncounted = refl;
         };
-        kept = λ z h q. absurd (seen_before h q zero_there);
+        kept = λ z h q. absurd (both_set h q new.1 zero_there);
         set = λ z. look_hit v.known p x p refl;
         event = λ z. made fits t id v facts.live s kept at (publishes v.number g i k x) ws log w is_step turn;
         lost = λ nz. absurd (nz zero_there);
         present = λ y. let pos = y.0 in absurd (omega arith);
-        both = λ h p fit closed. seen_before h p;
+        both = λ h p fit closed. both_set h p closed;
       } in (
         w,
         keeps,
@@ -202,6 +238,7 @@ module _ (fits : List ℕ → ℕ → ℕ → Type 0) (t : Tag) (slots id : ℕ)
         keep_turn fits t id v facts.live s kept at ws log (publishes v.number g i k x ∷ kept.events) w lawful size turn,
         record { slots = refl; tried = spread w tried },
       ))
+      may)
       (λ nonzero.
       let w : View = reads l v kept.log g i n in
       let turn = reads_turn l t.numbers (state_of l s.words kept.log) id v facts.live here g i n a refl in
@@ -219,7 +256,7 @@ module _ (fits : List ℕ → ℕ → ℕ → Type 0) (t : Tag) (slots id : ℕ)
         event = λ z. absurd (nonzero z);
         lost = λ nz. record { looks = looks; uncounted = refl; word = look_hit v.known p n p refl };
         present = λ y. subst (λ (z : ℕ). value_in kept.log z ≡ Some n) key_there (so.history.kept g i a (subst IsWord (sym key_there) word) y);
-        both = λ h p fit closed. seen_before h p;
+        both = λ h p fit closed. both_set h p closed;
       } in (
         w,
         keeps,

@@ -12,9 +12,9 @@ use Rattle.map_core.specs.declared.view.View.{View}
 use Rattle.map_core.specs.Sizes.{cells_of}
 use Rattle.map_core.specs.History.{value_in, IsLegalHistory, is_in, by_any}
 use Rattle.map_core.specs.Places.{offset, key_place, value_place, cells_in, home, spot, IsCell}
-use Rattle.map_core.specs.Machine.{IsWord, State, Passed, Reaches, OneCellPerKey, OneHistory}
+use Rattle.map_core.specs.Machine.{IsWord, State, Passed, OneCellPerKey, OneHistory}
 use Rattle.map_core.specs.Passes.{cell, placed, total, WhoBelow, Distinct, CountIsHonest, OpenClaims}
-use Rattle.map_core.proofs.PlaceLemmas.{one_generation, last_within, spot_cell}
+use Rattle.map_core.proofs.PlaceLemmas.{last_within, spot_cell}
 use Rattle.map_core.proofs.WordLemmas.{one_cell}
 use Rattle.map_core.proofs.HistoryLemmas.{value_hit, value_miss, by_hit, test_cases}
 use Rattle.map_core.proofs.PassLemmas.{in_first, in_second}
@@ -196,22 +196,7 @@ module _ (l : Layout) (fits : ℕ → ℕ → Type 0) (s : State) (views : List 
   key_at : ℕ → ℕ → ℕ
   key_at g i = s.cells (key_place l g i)
 
-  -- where the last generation is full of other keys, the history lacks the key
-  pub absent_whole : (k : ℕ) → Passed l s.cells l.last k (cells_of l.last) → value_in s.history k ≡ None
-  absent_whole k passed = none_or (value_in s.history k) refl
-    where
-      none_or : (o : Option ℕ) → value_in s.history k ≡ o → value_in s.history k ≡ None
-      none_or None e = e
-      none_or (Some v) e =
-          let p = (one.stands k v e).1 in
-          let g = (one.stands k v e).0 in
-          let is = one_generation l g p.cell.0 in
-          let r : Reaches l s.cells g p.index k = subst (λ (x : ℕ). Reaches l s.cells g p.index x) p.key_is (m.walked g p.index p.cell (subst IsWord (sym p.key_is) p.key)) in
-          let low : r.steps < cells_of l.last = subst (λ (x : ℕ). r.steps < cells_of x) is r.within in
-          let there : s.cells (key_place l l.last (spot l.last k r.steps)) ≡ k = subst (λ (x : ℕ). s.cells (key_place l x (spot x k r.steps)) ≡ k) is (subst (λ (x : ℕ). s.cells (key_place l g x) ≡ k) r.place p.key_is) in
-          absurd ((passed.others r.steps low).1 there)
-
-  -- and it has at least the capacity's entries
+  -- where the last generation is full of other keys, the history has at least the capacity's entries
   pub full : (mark : List ℕ) → OpenClaims l mark s views → length views ≤ l.passes → (k : ℕ) → Passed l s.cells l.last k (cells_of l.last) → l.capacity ≤ length s.history
   unfolding key_at
   full mark claims few k passed =

@@ -1,5 +1,5 @@
 -- Each event keeps the facts on the words and the history.
-use Rattle.std.proofs.Common.{◌≡◌, ℕ, ◌<◌, List, [], ◌∷◌, ◌++◌, Some, None, sym, ap, subst, ◌∙◌, ⊎_elim}
+use Rattle.std.proofs.Common.{◌≡◌, ℕ, ◌<◌, ◌≤◌, List, [], ◌∷◌, ◌++◌, Some, None, sym, ap, subst, ◌∙◌, ⊎_elim}
 use mathlib.Core.Logic.{dite}
 use native.Mathlib.Decide.{ℕ_discrete}
 use Rattle.map_core.specs.declared.entry.Entry.{Entry}
@@ -22,6 +22,7 @@ module _ (l : Layout) (C D : ℕ → ℕ) where
         record {
           walked = λ g i a w. let e = (same g i a).0 in subst (λ (x : ℕ). Reaches l D g i x) (sym e) (reaches_on l C D keeps g i (C (key_place l g i)) (m.walked g i a (subst IsWord e w)));
           keyed = λ g i a some_there. let e = same g i a in subst IsWord (sym e.0) (m.keyed g i a (subst (λ (x : ℕ). 0 < x) e.1 some_there));
+          bounded = λ g i a. subst (λ (x : ℕ). x ≤ greatest) (sym (same g i a).1) (m.bounded g i a);
           last_open = λ i a. let e = same l.last i (last_within l, a) in let o = m.last_open i a in (subst (λ (x : ℕ). x < greatest) (sym e.0) o.0, subst (λ (x : ℕ). x < greatest) (sym e.1) o.1);
         }
 
@@ -52,6 +53,7 @@ module _ (l : Layout) (C D : ℕ → ℕ) where
           keyed = λ h j a some_there.
               let is = only (value_place l h j) (value_key l h j g i) in
               keeps_word C D key_keeps (key_place l h j) (m.keyed h j a (subst (λ (y : ℕ). 0 < y) is some_there));
+          bounded = λ h j a. subst (λ (y : ℕ). y ≤ greatest) (sym (only (value_place l h j) (value_key l h j g i))) (m.bounded h j a);
           last_open = λ j a.
               let o = m.last_open j a in (
                 dite (ℕ_discrete (key_place l l.last j) (key_place l g i))
@@ -81,8 +83,8 @@ module _ (l : Layout) (C D : ℕ → ℕ) where
     keys_same : (h j : ℕ) → D (key_place l h j) ≡ C (key_place l h j)
     keys_same h j = only (key_place l h j) (key_value l h j g i)
 
-    pub value_cells : (g ≡ l.last → w < greatest) → OneCellPerKey l C → OneCellPerKey l D
-    value_cells open_there m =
+    pub value_cells : w ≤ greatest → (g ≡ l.last → w < greatest) → OneCellPerKey l C → OneCellPerKey l D
+    value_cells most open_there m =
         record {
           walked = λ h j a x.
               let is = keys_same h j in
@@ -92,6 +94,9 @@ module _ (l : Layout) (C D : ℕ → ℕ) where
               let same = value_value l h j g i a cell e in
               subst (λ (p : ℕ × ℕ). IsWord (D (key_place l p.0 p.1))) (λ t. (sym same.0 t, sym same.1 t)) (subst IsWord (sym (keys_same g i)) key))
               (λ ne. let is = only (value_place l h j) ne in subst IsWord (sym (keys_same h j)) (m.keyed h j a (subst (λ (y : ℕ). 0 < y) is some_there)));
+          bounded = λ h j a. dite (ℕ_discrete (value_place l h j) (value_place l g i))
+              (λ e. subst (λ (y : ℕ). y ≤ greatest) (sym (ap D e ∙ now)) most)
+              (λ ne. subst (λ (y : ℕ). y ≤ greatest) (sym (only (value_place l h j) ne)) (m.bounded h j a));
           last_open = λ j a.
               let o = m.last_open j a in (
                 subst (λ (y : ℕ). y < greatest) (sym (keys_same l.last j)) o.0,

@@ -12,12 +12,13 @@ use Rattle.map_core.specs.Sizes.{cells_of}
 use Rattle.map_core.specs.History.{value_in, IsLegalHistory, is_in, by_any}
 use Rattle.map_core.specs.Places.{word_count, key_place, value_place, Within, IsCell}
 use Rattle.map_core.specs.Machine.{IsWord, Keeps, State, Passed, IsClosed, Sound}
-use Rattle.map_core.specs.Passes.{look, all_numbers, placed, total, WhoBelow, Distinct, PassAt, HasFirst, SeesAll, FrontsOfOneHistory, CountIsHonest, HasClaim, OpenClaims, Together, PassFacts}
+use Rattle.map_core.specs.Passes.{look, all_numbers, placed, total, HasFilled, WhoBelow, Distinct, PassAt, HasFirst, SeesAll, FrontsOfOneHistory, CountIsHonest, HasClaim, OpenClaims, Together, PassFacts}
 use Rattle.map_core.specs.Knowing.{halved, newcomer}
-use Rattle.map_core.proofs.WordLemmas.{passed_on}
+use Rattle.map_core.proofs.WordLemmas.{passed_on, closed_on}
+use Rattle.map_core.proofs.AbsentLemmas.{absent_whole}
 use Rattle.map_core.proofs.HistoryLemmas.{by_miss, by_append}
 use Rattle.map_core.proofs.PassLemmas.{there_below, in_first, who_more, total_set, Apart, apart_back}
-use Rattle.map_core.proofs.CountLemmas.{in_hit, in_miss, absent_whole, full, few_below, all_below, by_all, count_le}
+use Rattle.map_core.proofs.CountLemmas.{in_hit, in_miss, full, few_below, all_below, by_all, count_le}
 
 -- what is true of a pass by itself, where its front is the whole history
 pub whole_facts : (l : Layout) (fits : List ℕ → ℕ → ℕ → Type 0) (mark : List ℕ) (s : State) (views : List View) (i : ℕ) (v : View)
@@ -66,6 +67,7 @@ whole_facts l fits mark s views i v so to at live front beside alone small =
       whole = λ e n. by_all v.numbers (length views) v.front (all_below v.numbers (length views) distinct below (n ∙ sym (count e))) (subst (WhoBelow (length views)) (sym front) to.fronts.who);
       generation = p.generation;
       currents = λ c h. subst (λ (x : Layout). Within x c) layout (let b = p.currents c h in let lo = b.0 in let hi = b.1 in let w = so.moved.within.1 in (lo, omega arith));
+      filled = subst (λ (x : Layout). HasFilled x v.generation v.front) layout p.filled;
       seen = subst (λ (x : Layout). (g j : ℕ) → IsCell x g j → IsWord (look v.known (key_place x g j)) → IsWord (look v.known (value_place x g j)) → value_in v.front (look v.known (key_place x g j)) ≡ Some (look v.known (value_place x g j))) layout
           (λ g j a key value.
           let k = keeps (key_place l g j) key.0 in
@@ -74,7 +76,8 @@ whole_facts l fits mark s views i v so to at live front beside alone small =
       ends = subst (λ (x : Layout). (c k : ℕ) → IsWord k → is_in c v.currents ≡ true → ((h : ℕ) → c ≤ h → h < x.last → IsClosed x (look v.known) h k) → Passed x (look v.known) x.last k (cells_of x.last) → value_in v.front k ≡ None) layout
           (λ c k word current closed passed.
           let on = passed_on l (look v.known) s.cells keeps l.last k (cells_of l.last) passed in
-          subst (λ (y : List Entry). value_in y k ≡ None) (sym front) (absent_whole l (fits mark) s views so.cells so.history k on));
+          let shut : (h : ℕ) → c ≤ h → h < l.last → IsClosed l s.cells h k = λ h a b. closed_on l (look v.known) s.cells keeps h k word.0 (closed h a b) in
+          subst (λ (y : List Entry). value_in y k ≡ None) (sym front) (absent_whole l (fits mark) s so l.last k c word (p.currents c current).1 shut refl on));
       full = subst (λ (x : Layout). (k : ℕ) → Passed x (look v.known) x.last k (cells_of x.last) → x.capacity ≤ length v.front) layout
           (λ k passed.
           let on = passed_on l (look v.known) s.cells keeps l.last k (cells_of l.last) passed in
@@ -109,6 +112,7 @@ halved_facts fits v some_spare t =
       whole = λ e n. let f : length v.numbers ≤ passes - spare = t.few e in let n' : length v.numbers ≡ passes - (spare - 1) = n in absurd (omega arith);
       generation = t.generation;
       currents = t.currents;
+      filled = t.filled;
       seen = t.seen;
       ends = t.ends;
       full = t.full;
@@ -146,6 +150,7 @@ newcomer_facts fits v some_spare t =
       whole = λ e n. let e' : passes - spare ≡ 0 = e in absurd (omega arith);
       generation = t.generation;
       currents = t.currents;
+      filled = t.filled;
       seen = t.seen;
       ends = t.ends;
       full = t.full;
@@ -215,6 +220,7 @@ module _ (l : Layout) (mark : List ℕ) (s : State) (views : List View) (i : ℕ
         count_seen = mine.count_seen;
         generation = mine.generation;
         currents = mine.currents;
+        filled = mine.filled;
       }
 
   -- none of the history is by the new pass
@@ -240,6 +246,7 @@ module _ (l : Layout) (mark : List ℕ) (s : State) (views : List View) (i : ℕ
         count_seen = mine.count_seen;
         generation = mine.generation;
         currents = mine.currents;
+        filled = mine.filled;
       }
     where
       none_right : (a b : List Entry) → a ++ b ≡ [] → b ≡ []

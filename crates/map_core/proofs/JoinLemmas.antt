@@ -135,6 +135,7 @@ module _ (l : Layout) (mark : List â„•) (s : State) (views : List View) (i j : â
         count_seen = p.count_seen;
         generation = p.generation;
         currents = p.currents;
+        filled = p.filled;
       }
 
   mid : List View

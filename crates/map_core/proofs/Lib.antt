@@ -3,7 +3,9 @@ pub mod PlaceLemmas
 pub mod WordLemmas
 pub mod HistoryLemmas
 pub mod EventLemmas
+pub mod SettleLemmas
 pub mod SoundLemmas
+pub mod AbsentLemmas
 pub mod CallLemmas
 pub mod PassLemmas
 pub mod TurnLemmas
@@ -11,4 +13,3 @@ pub mod CountLemmas
 pub mod FactLemmas
 pub mod JoinLemmas
 pub mod StartLemmas
-pub mod AbsentLemmas

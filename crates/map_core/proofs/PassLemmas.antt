@@ -1,5 +1,5 @@
 -- A step of one pass keeps what is true of all passes.
-use Rattle.std.proofs.Common.{◌≡◌, ◌≢◌, ℕ, zero, suc, ◌+◌, ◌<◌, ◌≤◌, Bool, true, false, List, [], ◌∷◌, ◌++◌, length, set, Some, ◌||◌, ◌==◌, refl, sym, ap, subst, ◌∙◌, inl, ⊎_elim, arith, append_assoc, append-nil, length-set, true≢false}
+use Rattle.std.proofs.Common.{◌≡◌, ◌≢◌, ℕ, zero, suc, ◌+◌, ◌-◌, ◌*◌, ◌<◌, ◌≤◌, Bool, true, false, List, [], ◌∷◌, ◌++◌, length, set, Some, ◌||◌, ◌==◌, refl, sym, ap, subst, ◌∙◌, inl, inr, ⊎_elim, arith, append_assoc, append-nil, length-append, length-set, true≢false}
 use mathlib.Core.Logic.{dite}
 use mathlib.Core.Option.{some, some-injective, some-ne-none}
 use native.Mathlib.Decide.{ℕ_discrete}
@@ -8,9 +8,11 @@ use Rattle.atomic_table.proofs.Lists.{at_set, set_here, set_else}
 use Rattle.map_core.specs.declared.entry.Entry.{Entry}
 use Rattle.map_core.specs.declared.layout.Layout.{Layout}
 use Rattle.map_core.specs.declared.view.View.{View}
+use Rattle.map_core.specs.Sizes.{cells_of}
 use Rattle.map_core.specs.History.{is_in, by_any, StartsWithOwn}
+use Rattle.map_core.specs.Places.{lowest}
 use Rattle.map_core.specs.Machine.{Keeps, State, IsUnset}
-use Rattle.map_core.specs.Passes.{look, cell, all_numbers, placed, total, WhoBelow, AllBy, PassAt, HasFirst, SeesAll, FrontsOfOneHistory, CountIsHonest, HasClaim, OpenClaims, Together, Turn}
+use Rattle.map_core.specs.Passes.{look, cell, all_numbers, placed, total, HasFilled, WhoBelow, AllBy, PassAt, HasFirst, SeesAll, FrontsOfOneHistory, CountIsHonest, HasClaim, OpenClaims, Together, Turn}
 use Rattle.map_core.proofs.HistoryLemmas.{by_miss, by_append, test_cases}
 
 pub keeps_trans : (C D E : ℕ → ℕ) → Keeps C D → Keeps D E → Keeps C E
@@ -80,6 +82,27 @@ own_grows ns front log added new p grows none =
 pub own_whole : (ns : List ℕ) (log : List Entry) → StartsWithOwn ns log log
 own_whole ns log = record { rest = []; joins = append-nil log; others = refl }
 
+pub own_length : (ns : List ℕ) (front log : List Entry) → StartsWithOwn ns front log → length front ≤ length log
+own_length ns front log p =
+    let n : ℕ = length front in
+    let m : ℕ = length p.rest in
+    let q : ℕ = length log in
+    let sum : length (front ++ p.rest) ≡ n + m = length-append front p.rest in
+    let same : q ≡ n + m = sym (ap (λ (x : List Entry). length x) p.joins) ∙ sum in
+    let goal : n ≤ q = omega arith in goal
+
+-- what a front fills, a longer one does
+pub filled_longer : (l : Layout) (g : ℕ) (a b : List Entry) → length a ≤ length b → HasFilled l g a → HasFilled l g b
+filled_longer l g a b le = ⊎_elim
+    (λ (e : g ≡ lowest l). inl e)
+    (λ (f : 3 * cells_of (g - 1) ≤ 4 * length a).
+    let n : ℕ = cells_of (g - 1) in
+    let x : ℕ = length a in
+    let y : ℕ = length b in
+    let le' : x ≤ y = le in
+    let f' : 3 * n ≤ 4 * x = f in
+    let goal : 3 * n ≤ 4 * y = omega arith in inr goal)
+
 -- the total after a change of one view
 pub total_set : (f : View → ℕ) (vs : List View) (i : ℕ) (v w : View) → get_elem? vs i ≡ some v → total f (set vs i w) + f v ≡ total f vs + f w
 total_set f [] i v w e = absurd (some-ne-none v (sym e))
@@ -113,6 +136,7 @@ pass_on l mark s t j u added keeps current count grows none none_front none_besi
       count_seen = let h = p.count_seen in omega arith;
       generation = p.generation;
       currents = λ c h. let b = p.currents c h in let hi = b.1 in (b.0, omega arith);
+      filled = p.filled;
     }
 
 -- two passes' numbers stay disjoint while one keeps its own

@@ -2,7 +2,7 @@
 use Rattle.std.proofs.Common.{◌≡◌, ◌≢◌, ℕ, ◌+◌, ◌-◌, ◌*◌, ◌/◌, ◌^◌, ◌<◌, ◌≤◌, sym, ap, ◌∙◌, arith, mod-lt}
 use Rattle.map_core.specs.declared.layout.Layout.{Layout}
 use Rattle.map_core.specs.Sizes.{cells_of}
-use Rattle.map_core.specs.Places.{lowest, base, key_place, value_place, finish_place, home, spot, Within, IsCell}
+use Rattle.map_core.specs.Places.{lowest, base, key_place, value_place, finish_place, home, spot, Within, IsCell, IsBlock}
 use Rattle.map_core.proofs.SizeLemmas.{cells_pos}
 
 -- for now a table has its last generation alone
@@ -38,6 +38,26 @@ place_within l g i a =
     let m : ℕ = cells_of l.last in
     let r : n ≡ m = ap cells_of e in
     let small : i < n = a.1 in omega arith
+
+-- the generation above one that isn't the last
+pub next_within : (l : Layout) (g : ℕ) → Within l g → g + 1 ≤ l.last → Within l (g + 1)
+next_within l g w le = let lo = w.0 in (omega arith, le)
+
+-- the block of a cell
+pub cell_block : (l : Layout) (g i : ℕ) → IsCell l g i → IsBlock l g (i / 64)
+unfolding cells_of
+cell_block l g i a = let x : ℕ = 2 ^ g in let small : i < 64 * x = a.1 in let goal : i / 64 < 64 * x / 64 = omega arith in (a.0, goal)
+
+-- two blocks with one finish word are one
+pub same_block : (l : Layout) (g b h c : ℕ) → IsBlock l g b → IsBlock l h c → finish_place l g b ≡ finish_place l h c → (g ≡ h) × (b ≡ c)
+unfolding finish_place
+same_block l g b h c x y e =
+    let p : g ≡ h = one_generation l g x.0 ∙ sym (one_generation l h y.0) in
+    let m : ℕ = base l g / 64 in
+    let n : ℕ = base l h / 64 in
+    let q : m ≡ n = ap (λ (z : ℕ). base l z / 64) p in
+    let t : ℕ = 2 * (base l l.last + cells_of l.last) in
+    let e' : t + (m + b) ≡ t + (n + c) = e in (p, omega arith)
 
 -- at the last generation nothing is higher
 pub last_base : (l : Layout) → base l l.last + cells_of l.last ≡ cells_of l.last

@@ -40,6 +40,7 @@ module _ (l : Layout) (mark : List ℕ) (s : State) (cells : (q : ℕ) → s.cel
         count_seen = omega arith;
         generation = in_hit (lowest l) (lowest l) [] refl;
         currents = λ c h. dite (ℕ_discrete c (lowest l)) (λ e. (omega arith, omega arith)) (λ ne. absurd (true≢false (sym h ∙ in_miss c (lowest l) [] ne)));
+        filled = inl refl;
       }
 
   pub start_together : Together l mark s (first_view l mark ∷ [])
@@ -87,6 +88,7 @@ first_facts fits l mark =
       whole = λ e n. refl;
       generation = in_hit (lowest l) (lowest l) [] refl;
       currents = λ c h. dite (ℕ_discrete c (lowest l)) (λ e. subst (Within l) (sym e) (lowest_within l)) (λ ne. absurd (true≢false (sym h ∙ in_miss c (lowest l) [] ne)));
+      filled = inl refl;
       seen = λ g i a key value. let pos = key.0 in absurd (omega arith);
       full = λ k passed. let pos = (passed.others 0 (cells_pos l.last)).0.0 in absurd (omega arith);
       ends = λ c k word current closed passed. let pos = (passed.others 0 (cells_pos l.last)).0.0 in absurd (omega arith);

@@ -7,15 +7,15 @@ use Rattle.map_core.specs.declared.entry.Entry.{Entry}
 use Rattle.map_core.specs.declared.layout.Layout.{Layout}
 use Rattle.map_core.specs.declared.view.View.{View}
 use Rattle.map_core.specs.History.{is_in, by_any, StartsWithOwn}
-use Rattle.map_core.specs.Places.{key_place, value_place, IsCell}
+use Rattle.map_core.specs.Places.{lowest, key_place, value_place, IsCell}
 use Rattle.map_core.specs.Machine.{IsWord, Keeps, State, IsUnset}
 use Rattle.map_core.specs.Events.{entry, WritesWord}
-use Rattle.map_core.specs.Passes.{look, cell, drop_claim, all_numbers, placed, AllBy, PassAt, Turn}
+use Rattle.map_core.specs.Passes.{look, cell, drop_claim, all_numbers, placed, HasFilled, AllBy, PassAt, Turn}
 use Rattle.map_core.specs.Knowing.{all_but_first, sees, reads, grabs, places, counts_seen, tallies, settles}
 use Rattle.map_core.proofs.PlaceLemmas.{key_key, value_value, key_value, value_key}
 use Rattle.map_core.proofs.WordLemmas.{keeps_at}
 use Rattle.map_core.proofs.HistoryLemmas.{by_hit, by_append}
-use Rattle.map_core.proofs.PassLemmas.{keeps_trans, own_whole, own_grows, in_first}
+use Rattle.map_core.proofs.PassLemmas.{keeps_trans, own_whole, own_grows, own_length, filled_longer, in_first}
 
 pub look_hit : (known : List (ℕ × ℕ)) (q n x : ℕ) → q ≡ x → look ((q, n) ∷ known) x ≡ n
 look_hit known q n x is = subst (λ (b : Bool). (if b then n else look known x) ≡ n) (sym (eq-eqb q x is)) refl
@@ -66,68 +66,123 @@ drop_own o g i =
     (λ (e : o ≡ Some (cell g i)). ap (λ (x : Option Cell). drop_claim x g i) e ∙ subst (λ (b : Bool). (if (b && (i == i)) then None else Some (cell g i)) ≡ None) (sym (eq-eqb g g refl)) (subst (λ (b : Bool). (if b then None else Some (cell g i)) ≡ None) (sym (eq-eqb i i refl)) refl))
 
 module _ (l : Layout) (mark : List ℕ) (s : State) (i : ℕ) (v : View) (live : v.live ≡ true) (p : PassAt l mark s i v) where
-  -- any new view of what was so already
-  module _ (w : View) (known : Keeps (look w.known) s.cells) (front : w.front ≡ s.history)
-      (same : (w.number ≡ v.number) × (w.layout ≡ v.layout) × (w.tag ≡ v.tag) × (w.numbers ≡ v.numbers) × (w.beside ≡ v.beside) × (w.beside_numbers ≡ v.beside_numbers) × (w.spare ≡ v.spare) × (w.generation ≡ v.generation) × (w.currents ≡ v.currents) × (w.live ≡ v.live))
-      (sums : (w.counted ≡ v.counted) × (w.uncounted ≡ v.uncounted)) (count : w.count_seen ≤ s.count) where
-    stays_at : PassAt l mark s i w
-    stays_at =
+  -- the whole history fills what the pass's front did, also with entries added
+  filled_now : (added log : List Entry) → s.history ++ added ≡ log → HasFilled l v.generation log
+  filled_now added log grows =
+      let n : ℕ = length s.history in
+      let m : ℕ = length added in
+      let k : ℕ = length log in
+      let sum : length (s.history ++ added) ≡ n + m = length-append s.history added in
+      let same : k ≡ n + m = sym (ap (λ (x : List Entry). length x) grows) ∙ sum in
+      let old : length v.front ≤ n = own_length v.numbers v.front s.history p.front in
+      let low : length v.front ≤ k = omega arith in
+      filled_longer l v.generation v.front log low p.filled
+
+  -- what no step changes of a view
+  abbrev Same : View → Type 0
+  Same w = (w.number ≡ v.number) × (w.layout ≡ v.layout) × (w.tag ≡ v.tag) × (w.numbers ≡ v.numbers) × (w.beside ≡ v.beside) × (w.beside_numbers ≡ v.beside_numbers) × (w.spare ≡ v.spare) × (w.live ≡ v.live)
+
+  -- what no step but one that counts or places changes
+  abbrev Sums : View → Type 0
+  Sums w = (w.counted ≡ v.counted) × (w.uncounted ≡ v.uncounted)
+
+  -- what no step but one that sees a generation or a count changes
+  abbrev Sights : View → Type 0
+  Sights w = (w.generation ≡ v.generation) × (w.currents ≡ v.currents) × (w.count_seen ≡ v.count_seen)
+
+  -- a cell that is unset in the state t is an open claim of w, or was unset and is another's
+  abbrev ClaimsStay : State → View → Type 0
+  ClaimsStay t w = (g j : ℕ) → IsCell l g j → IsUnset l t.cells g j → (w.claim ≡ Some (cell g j)) ⊎ (IsUnset l s.cells g j × (v.claim ≢ Some (cell g j)))
+
+  -- any step that adds no entry
+  module _ (t : State) (keeps : Keeps s.cells t.cells) (log : t.history ≡ s.history) (current : s.current ≤ t.current) (count : t.count ≡ s.count) where
+    pub moves_turn : (w : View) → Keeps (look w.known) t.cells → w.front ≡ t.history → Same w → Sums w → w.count_seen ≤ t.count
+        → is_in w.generation w.currents ≡ true → ((c : ℕ) → is_in c w.currents ≡ true → (lowest l ≤ c) × (c ≤ t.current)) → HasFilled l w.generation t.history
+        → ClaimsStay t w → Turn l mark s t i v w
+    moves_turn w known front same sums seen generation currents filled claims =
         let numbers : all_numbers w ≡ all_numbers v = λ k. same.3 k ++ same.5 k in
         record {
-          number = same.0 ∙ p.number;
-          layout = same.1 ∙ p.layout;
-          tag = same.2 ∙ p.tag;
-          front = subst (λ (x : List Entry). StartsWithOwn w.numbers x s.history) (sym front) (own_whole w.numbers s.history);
-          beside = subst (λ (x : List ℕ × List Entry). StartsWithOwn x.0 x.1 s.history) (λ k. (sym same.5 k, sym same.4 k)) p.beside;
-          knows = known;
-          own = subst (λ (x : ℕ × List ℕ). is_in x.0 x.1 ≡ true) (λ k. (sym same.0 k, sym same.3 k)) p.own;
-          tally = ap (λ (ns : List ℕ). length (by_any ns s.history)) numbers ∙ (p.tally ∙ sym (λ k. sums.0 k + length (sums.1 k)));
-          spare = λ h. same.6 ∙ p.spare h;
-          distinct = subst Rattle.map_core.specs.Passes.Distinct (sym numbers) p.distinct;
-          count_seen = count;
-          generation = subst (λ (x : ℕ × List ℕ). is_in x.0 x.1 ≡ true) (λ k. (sym same.7 k, sym same.8 k)) p.generation;
-          currents = λ c h. p.currents c (subst (λ (x : List ℕ). is_in c x ≡ true) same.8 h);
-        }
-
-    pub stays_turn : ((g j : ℕ) → IsCell l g j → IsUnset l s.cells g j → (w.claim ≡ Some (cell g j)) ⊎ (v.claim ≢ Some (cell g j))) → Turn l mark s s i v w
-    stays_turn claims =
-        record {
-          keeps = λ q h. refl;
-          current = omega arith;
+          keeps = keeps;
+          current = current;
           count = omega arith;
           added = [];
-          grows = append-nil s.history;
+          grows = append-nil s.history ∙ sym log;
           mine = tt;
-          live = (live, same.9 ∙ live);
-          numbers = λ k. same.3 k ++ same.5 k;
+          live = (live, same.7 ∙ live);
+          numbers = numbers;
           spare = same.6;
-          at = stays_at;
+          at = record {
+            number = same.0 ∙ p.number;
+            layout = same.1 ∙ p.layout;
+            tag = same.2 ∙ p.tag;
+            front = subst (λ (x : List Entry). StartsWithOwn w.numbers x t.history) (sym front) (own_whole w.numbers t.history);
+            beside = subst (λ (x : List ℕ × List Entry × List Entry). StartsWithOwn x.0 x.1 x.2) (λ k. (sym same.5 k, sym same.4 k, sym log k)) p.beside;
+            knows = known;
+            own = subst (λ (x : ℕ × List ℕ). is_in x.0 x.1 ≡ true) (λ k. (sym same.0 k, sym same.3 k)) p.own;
+            tally = (λ k. length (by_any (numbers k) (log k))) ∙ (p.tally ∙ sym (λ k. sums.0 k + length (sums.1 k)));
+            spare = λ h. same.6 ∙ p.spare h;
+            distinct = subst Rattle.map_core.specs.Passes.Distinct (sym numbers) p.distinct;
+            count_seen = seen;
+            generation = generation;
+            currents = currents;
+            filled = subst (λ (x : List Entry). HasFilled l w.generation x) (sym front) filled;
+          };
           whole = front;
-          counted = ap (λ (x : ℕ). x + s.count) sums.0;
-          placed = λ k. (sums.0 k + length (sums.1 k)) + length s.history;
-          claims = λ g j a unset. ⊎_elim
-              (λ (e : w.claim ≡ Some (cell g j)). inl e)
-              (λ (ne : v.claim ≢ Some (cell g j)). inr (unset, ne))
-              (claims g j a unset);
+          counted = λ k. sums.0 k + sym count k;
+          placed = λ k. (sums.0 k + length (sums.1 k)) + length (sym log k);
+          claims = claims;
         }
+
+    -- one that sees no new generation and no count
+    pub sights_turn : (w : View) → Keeps (look w.known) t.cells → w.front ≡ t.history → Same w → Sums w → Sights w → ClaimsStay t w → Turn l mark s t i v w
+    sights_turn w known front same sums sights claims =
+        let seen = p.count_seen in
+        let count_same = sights.2 in
+        moves_turn w known front same sums (omega arith) (subst (λ (x : ℕ × List ℕ). is_in x.0 x.1 ≡ true) (λ k. (sym sights.0 k, sym sights.1 k)) p.generation)
+        (λ c h. let b = p.currents c (subst (λ (x : List ℕ). is_in c x ≡ true) sights.1 h) in let hi = b.1 in (b.0, omega arith))
+        (subst (λ (x : ℕ). HasFilled l x t.history) (sym sights.0) (filled_now [] t.history (append-nil s.history ∙ sym log)))
+        claims
+
+  -- a load
+  pub stays_turn : (w : View) → Keeps (look w.known) s.cells → w.front ≡ s.history → Same w → Sums w → Sights w
+      → ((g j : ℕ) → IsCell l g j → IsUnset l s.cells g j → (w.claim ≡ Some (cell g j)) ⊎ (v.claim ≢ Some (cell g j))) → Turn l mark s s i v w
+  stays_turn w known front same sums sights claims =
+      sights_turn s (λ q h. refl) refl (omega arith) refl w known front same sums sights
+      (λ g j a unset. ⊎_elim
+      (λ (e : w.claim ≡ Some (cell g j)). inl e)
+      (λ (ne : v.claim ≢ Some (cell g j)). inr (unset, ne))
+      (claims g j a unset))
+
+  -- one word is written that was 0
+  pub write_turn : (t : State) (q x : ℕ) → WritesWord q 0 x s t → t.history ≡ s.history → (w : View) → w.known ≡ (q, x) ∷ v.known → w.front ≡ t.history → Same w → Sums w → Sights w → ClaimsStay t w → Turn l mark s t i v w
+  write_turn t q x wr log w known front same sums sights claims =
+      let keeps : Keeps s.cells t.cells = keeps_at q s.cells t.cells wr.was wr.only in
+      let current = wr.current in
+      sights_turn t keeps log (omega arith) wr.count w
+      (subst (λ (ks : List (ℕ × ℕ)). Keeps (look ks) t.cells) (sym known) (knows_more v.known t.cells q x wr.is (keeps_trans (look v.known) s.cells t.cells p.knows keeps)))
+      front same sums sights claims
 
   same_claim : (w : View) → w.claim ≡ v.claim → (g j : ℕ) → (w.claim ≡ Some (cell g j)) ⊎ (v.claim ≢ Some (cell g j))
   same_claim w same g j = ⊎_elim (λ (e : v.claim ≡ Some (cell g j)). inl (same ∙ e)) (λ (ne : v.claim ≢ Some (cell g j)). inr ne) (claim_cases v.claim g j)
 
   pub sees_turn : (q n : ℕ) → s.cells q ≡ n → Turn l mark s s i v (sees v s.history q n)
   sees_turn q n is =
-      stays_turn (sees v s.history q n) (knows_more v.known s.cells q n is p.knows) refl (refl, refl, refl, refl, refl, refl, refl, refl, refl, refl) (refl, refl) p.count_seen
+      stays_turn (sees v s.history q n) (knows_more v.known s.cells q n is p.knows) refl (refl, refl, refl, refl, refl, refl, refl, refl) (refl, refl) (refl, refl, refl)
       (λ g j a unset. same_claim (sees v s.history q n) refl g j)
 
   pub counts_seen_turn : Turn l mark s s i v (counts_seen v s.history s.count)
   counts_seen_turn =
-      stays_turn (counts_seen v s.history s.count) p.knows refl (refl, refl, refl, refl, refl, refl, refl, refl, refl, refl) (refl, refl) (omega arith)
-      (λ g j a unset. same_claim (counts_seen v s.history s.count) refl g j)
+      let w : View = counts_seen v s.history s.count in
+      moves_turn s (λ q h. refl) refl (omega arith) refl w p.knows refl (refl, refl, refl, refl, refl, refl, refl, refl) (refl, refl) (omega arith) p.generation p.currents (filled_now [] s.history (append-nil s.history))
+      (λ g j a unset. ⊎_elim
+      (λ (e : w.claim ≡ Some (cell g j)). inl e)
+      (λ (ne : v.claim ≢ Some (cell g j)). inr (unset, ne))
+      (same_claim w refl g j))
 
   pub reads_turn : (g j n : ℕ) → IsCell l g j → s.cells (value_place l g j) ≡ n → Turn l mark s s i v (reads l v s.history g j n)
   reads_turn g j n a is =
       let w : View = reads l v s.history g j n in
-      stays_turn w (knows_more v.known s.cells (value_place l g j) n is p.knows) refl (refl, refl, refl, refl, refl, refl, refl, refl, refl, refl) (refl, refl) p.count_seen
+      stays_turn w (knows_more v.known s.cells (value_place l g j) n is p.knows) refl (refl, refl, refl, refl, refl, refl, refl, refl) (refl, refl) (refl, refl, refl)
       (λ h k b unset. ⊎_elim
       (λ (e : v.claim ≡ Some (cell h k)). dite (ℕ_discrete n 0)
       (λ z. inl (subst (λ (t : Bool). (if t then v.claim else drop_claim v.claim g j) ≡ Some (cell h k)) (sym (eq-eqb n 0 z)) e))
@@ -137,46 +192,32 @@ module _ (l : Layout) (mark : List ℕ) (s : State) (i : ℕ) (v : View) (live :
       (claim_cases v.claim h k))
 
   -- a claim that was won
-  pub grabs_turn : (t : State) (g j k : ℕ) → IsCell l g j → IsWord k → v.claim ≡ None → WritesWord (key_place l g j) 0 k s t → t.history ≡ s.history → Turn l mark s t i v (grabs l v t.history g j k)
-  grabs_turn t g j k a word free wr log =
-      let w : View = grabs l v t.history g j k in
-      let keeps : Keeps s.cells t.cells = keeps_at (key_place l g j) s.cells t.cells wr.was wr.only in
-      let back : PassAt l mark t i w = record {
-        number = p.number;
-        layout = p.layout;
-        tag = p.tag;
-        front = own_whole v.numbers t.history;
-        beside = subst (λ (x : List Entry). StartsWithOwn v.beside_numbers v.beside x) (sym log) p.beside;
-        knows = knows_more v.known t.cells (key_place l g j) k wr.is (keeps_trans (look v.known) s.cells t.cells p.knows keeps);
-        own = p.own;
-        tally = ap (λ (x : List Entry). length (by_any (all_numbers v) x)) log ∙ p.tally;
-        spare = p.spare;
-        distinct = p.distinct;
-        count_seen = subst (λ (x : ℕ). v.count_seen ≤ x) (sym wr.count) p.count_seen;
-        generation = p.generation;
-        currents = λ c h. let b = p.currents c h in (b.0, subst (λ (x : ℕ). c ≤ x) (sym wr.current) b.1);
-      } in
-      record {
-        keeps = keeps;
-        current = let e = wr.current in omega arith;
-        count = let e = wr.count in omega arith;
-        added = [];
-        grows = append-nil s.history ∙ sym log;
-        mine = tt;
-        live = (live, live);
-        numbers = refl;
-        spare = refl;
-        at = back;
-        whole = refl;
-        counted = ap (λ (x : ℕ). v.counted + x) (sym wr.count);
-        placed = ap (λ (x : List Entry). placed v + length x) (sym log);
-        claims = λ h m b unset. dite (ℕ_discrete (key_place l h m) (key_place l g j))
-            (λ e. let same = key_key l h m g j b a e in inl (λ x. Some (cell (sym same.0 x) (sym same.1 x))))
-            (λ ne.
-            let key = wr.only (key_place l h m) ne in
-            let value = wr.only (value_place l h m) (value_key l h m g j) in
-            inr ((subst IsWord key unset.0, sym value ∙ unset.1), (λ e. let bad : None ≡ Some (cell h m) = sym free ∙ e in absurd (cc))));
-      }
+  pub grabs_turn : (t : State) (g j k : ℕ) → IsCell l g j → v.claim ≡ None → WritesWord (key_place l g j) 0 k s t → t.history ≡ s.history → Turn l mark s t i v (grabs l v t.history g j k)
+  grabs_turn t g j k a free wr log =
+      write_turn t (key_place l g j) k wr log (grabs l v t.history g j k) refl refl (refl, refl, refl, refl, refl, refl, refl, refl) (refl, refl) (refl, refl, refl)
+      (λ h m b unset. dite (ℕ_discrete (key_place l h m) (key_place l g j))
+      (λ e. let same = key_key l h m g j b a e in inl (λ x. Some (cell (sym same.0 x) (sym same.1 x))))
+      (λ ne.
+      let key = wr.only (key_place l h m) ne in
+      let value = wr.only (value_place l h m) (value_key l h m g j) in
+      inr ((subst IsWord key unset.0, sym value ∙ unset.1), (λ e. let bad : None ≡ Some (cell h m) = sym free ∙ e in absurd (cc)))))
+
+  -- a value word was set, and the history is as it was
+  pub value_turn : (t : State) (g j x : ℕ) → IsCell l g j → 0 < x → WritesWord (value_place l g j) 0 x s t → t.history ≡ s.history → Turn l mark s t i v (reads l v t.history g j x)
+  value_turn t g j x a pos wr log =
+      let w : View = reads l v t.history g j x in
+      let set_there : w.claim ≡ drop_claim v.claim g j = ap (λ (b : Bool). if b then v.claim else drop_claim v.claim g j) (ne_eqb x 0 (λ e. omega arith)) in
+      write_turn t (value_place l g j) x wr log w refl refl (refl, refl, refl, refl, refl, refl, refl, refl) (refl, refl) (refl, refl, refl)
+      (λ h o b unset.
+      let apart : (h ≡ g) × (o ≡ j) → ⊥ = λ same.
+      let at : t.cells (value_place l h o) ≡ x = ap (λ (c : ℕ × ℕ). t.cells (value_place l c.0 c.1)) (λ c. (same.0 c, same.1 c)) ∙ wr.is in
+      let zero_there = unset.1 in omega arith in
+      let value = wr.only (value_place l h o) (λ same. apart (value_value l h o g j b a same)) in
+      let key = wr.only (key_place l h o) (key_value l h o g j) in
+      ⊎_elim
+      (λ (c : v.claim ≡ Some (cell h o)). inl (set_there ∙ drop_other v.claim g j h o c apart))
+      (λ (c : v.claim ≢ Some (cell h o)). inr ((subst IsWord key unset.0, sym value ∙ unset.1), c))
+      (claim_cases v.claim h o))
 
   -- a publish that was won, of a new entry
   pub places_turn : (t : State) (g j k x : ℕ) → IsCell l g j → 0 < x → v.beside_numbers ≡ [] → WritesWord (value_place l g j) 0 x s t → t.history ≡ s.history ++ entry v.number k x ∷ []
@@ -220,6 +261,7 @@ module _ (l : Layout) (mark : List ℕ) (s : State) (i : ℕ) (v : View) (live :
         count_seen = subst (λ (c : ℕ). v.count_seen ≤ c) (sym wr.count) p.count_seen;
         generation = p.generation;
         currents = λ c h. let b = p.currents c h in (b.0, subst (λ (d : ℕ). c ≤ d) (sym wr.current) b.1);
+        filled = filled_now (e ∷ []) t.history (sym log);
       } in
       record {
         keeps = keeps;
@@ -271,6 +313,7 @@ module _ (l : Layout) (mark : List ℕ) (s : State) (i : ℕ) (v : View) (live :
         count_seen = omega arith;
         generation = p.generation;
         currents = λ c h. let b = p.currents c h in (b.0, subst (λ (d : ℕ). c ≤ d) (sym current) b.1);
+        filled = filled_now [] t.history (append-nil s.history ∙ sym log);
       } in
       record {
         keeps = keeps;
@@ -315,6 +358,7 @@ module _ (l : Layout) (mark : List ℕ) (s : State) (i : ℕ) (v : View) (live :
         count_seen = p.count_seen;
         generation = p.generation;
         currents = p.currents;
+        filled = filled_now [] s.history (append-nil s.history);
       } in
       record {
         keeps = λ q h. refl;

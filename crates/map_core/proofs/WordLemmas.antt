@@ -5,7 +5,7 @@ use native.Mathlib.Decide.{ℕ_discrete, dec_lt}
 use Rattle.map_core.specs.declared.layout.Layout.{Layout}
 use Rattle.map_core.specs.Sizes.{cells_of}
 use Rattle.map_core.specs.Places.{key_place, value_place, spot, IsCell}
-use Rattle.map_core.specs.Machine.{greatest, IsWord, Keeps, Only, Passed, Reaches, IsClosed, IsPublished, IsDone, OneCellPerKey}
+use Rattle.map_core.specs.Machine.{greatest, IsWord, Keeps, Only, Passed, Reaches, IsClosed, IsPublished, IsSettled, IsDone, IsFinal, OneCellPerKey}
 
 pub keeps_at : (p : ℕ) (C D : ℕ → ℕ) → C p ≡ 0 → Only p C D → Keeps C D
 keeps_at p C D zero_at only q some_there = dite (ℕ_discrete q p) (λ e. let z : C q ≡ 0 = ap C e ∙ zero_at in absurd (omega arith)) (λ ne. only q ne)
@@ -56,6 +56,14 @@ module _ (l : Layout) (C D : ℕ → ℕ) (keeps : Keeps C D) where
       ⊎_elim
       (λ (s : C (key_place l g i) ≡ greatest). inl (keeps_value C D keeps (key_place l g i) greatest (omega arith) s))
       (λ (s : 0 < C (value_place l g i)). inr (subst (λ (x : ℕ). 0 < x) (sym (keeps (value_place l g i) s)) s))
+
+  pub settled_on : (g k : ℕ) → 0 < k → IsSettled l C g k → IsSettled l D g k
+  settled_on g k pos = ⊎_elim
+      (λ (c : IsClosed l C g k). inl (closed_on g k pos c))
+      (λ (p : (v : ℕ) × IsPublished l C g k v). inr (p.0, published_on g k p.0 p.1))
+
+  pub final_on : (g : ℕ) → IsFinal l C g → IsFinal l D g
+  final_on g f = record { done = λ i a. done_on g i (f.done i a) }
 
 -- the walk of a key has one end
 pub one_end : (l : Layout) (C : ℕ → ℕ) (g k d e : ℕ) → Passed l C g k d → Passed l C g k e

@@ -1,12 +1,12 @@
 -- The words of a table at one moment, and the facts that hold of them at every moment.
 -- A key word is 0 (empty), the greatest number (sealed) or a key. A value word is 0 (unset), the greatest number (closed) or a value.
 -- C q is the word at place q.
-use Rattle.std.specs.Prelude.{◌≡◌, ◌≢◌, ◌⊎◌, ℕ, ◌/◌, ◌<◌, ◌≤◌, List, Some}
+use Rattle.std.specs.Prelude.{◌≡◌, ◌≢◌, ◌⊎◌, ℕ, ◌-◌, ◌*◌, ◌/◌, ◌<◌, ◌≤◌, List, Some}
 use Rattle.map_core.specs.declared.entry.Entry.{Entry}
 use Rattle.map_core.specs.declared.layout.Layout.{Layout}
 use Rattle.map_core.specs.Sizes.{cells_of}
 use Rattle.map_core.specs.History.{value_in, IsLegalHistory}
-use Rattle.map_core.specs.Places.{key_place, value_place, finish_place, current_in, count_in, cells_in, spot, Within, IsCell, IsBlock}
+use Rattle.map_core.specs.Places.{lowest, key_place, value_place, finish_place, current_in, count_in, cells_in, spot, Within, IsCell, IsBlock}
 
 abbrev pub greatest : ℕ
 greatest = 18446744073709551615
@@ -73,10 +73,22 @@ module _ (l : Layout) (C : ℕ → ℕ) where
   abbrev pub IsUnset : ℕ → ℕ → Type 0
   IsUnset g i = IsWord (C (key_place l g i)) × (C (value_place l g i) ≡ 0)
 
-  -- Each key of a generation is met by its walk, so that it stands in one cell. A value stands in a cell with a key. In the last generation nothing is sealed or closed
+  -- a cell that is sealed, closed at a key, or has a pair that is published in a higher generation. This is what a
+  -- pass sees of a cell before it finishes the cell's block
+  pub record CellMoved (g i : ℕ) : Type 0 where
+    pub how : (C (key_place l g i) ≡ greatest) ⊎ (IsWord (C (key_place l g i)) × ((C (value_place l g i) ≡ greatest)
+        ⊎ ((h : ℕ) × (g < h) × IsPublished h (C (key_place l g i)) (C (value_place l g i)))))
+
+  -- a block of 64 such cells
+  pub record BlockMoved (g b : ℕ) : Type 0 where
+    pub cells : (i : ℕ) → IsCell l g i → i / 64 ≡ b → CellMoved g i
+
+  -- Each key of a generation is met by its walk, so that it stands in one cell. A value stands in a cell with a key, and
+  -- is at most the greatest number. In the last generation nothing is sealed or closed
   pub record OneCellPerKey : Type 0 where
     pub walked : (g i : ℕ) → IsCell l g i → IsWord (C (key_place l g i)) → Reaches g i (C (key_place l g i))
     pub keyed : (g i : ℕ) → IsCell l g i → 0 < C (value_place l g i) → IsWord (C (key_place l g i))
+    pub bounded : (g i : ℕ) → IsCell l g i → C (value_place l g i) ≤ greatest
     pub last_open : (i : ℕ) → i < cells_of l.last → (C (key_place l l.last i) < greatest) × (C (value_place l l.last i) < greatest)
 
   -- A key that stands in a generation is closed or published in each lower one
@@ -89,9 +101,10 @@ module _ (l : Layout) (C : ℕ → ℕ) where
     pub left : (g : ℕ) → Within l g → g < current → IsFinal g
     pub carried : (g k v : ℕ) → g < current → IsPublished g k v → (h : ℕ) × (current ≤ h) × IsPublished h k v
 
-  -- A block whose finish word is 1 is done and moved
+  -- A finish word is 0 or 1, and a block whose finish word is 1 is done and moved
   pub record FinishedBlocks : Type 0 where
     pub finished : (g b : ℕ) → IsBlock l g b → C (finish_place l g b) ≡ 1 → IsMoved g b
+    pub small : (g b : ℕ) → IsBlock l g b → C (finish_place l g b) ≤ 1
 
   module _ (fits : ℕ → ℕ → Type 0) (log : List Entry) where
     -- All published cells of a key hold the value that the history has of it. The history has no other keys, each once, and each entry fits
@@ -108,13 +121,15 @@ pub record State : Type 0 where
   pub cells : ℕ → ℕ
   pub history : List Entry
 
--- the facts on the words and the history, all together
+-- The facts on the words and the history, all together. Above the lowest generation the count fills three quarters of
+-- the generation below the current one
 pub record Sound (l : Layout) (fits : ℕ → ℕ → Type 0) (s : State) : Type 0 where
   pub cells : OneCellPerKey l s.cells
   pub closed : ClosedBelow l s.cells
   pub moved : MovedBelow l s.cells s.current
   pub finished : FinishedBlocks l s.cells
   pub history : OneHistory l s.cells fits s.history
+  pub filled : lowest l < s.current → 3 * cells_of (s.current - 1) ≤ 4 * s.count
 
 -- a table with these words. It has no take words yet
 abbrev pub state_of : Layout → List ℕ → List Entry → State

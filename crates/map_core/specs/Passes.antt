@@ -1,5 +1,5 @@
 -- What the passes of a table know, and the facts that tie it to the table's words and history.
-use Rattle.std.specs.Prelude.{◌≡◌, ◌≢◌, ◌⊎◌, ℕ, ◌+◌, ◌-◌, ◌<◌, ◌≤◌, true, false, List, [], ◌∷◌, ◌++◌, length, Option, Some, None, if◌then◌else◌, ◌==◌, ◌&&◌}
+use Rattle.std.specs.Prelude.{◌≡◌, ◌≢◌, ◌⊎◌, ℕ, ◌+◌, ◌-◌, ◌*◌, ◌<◌, ◌≤◌, true, false, List, [], ◌∷◌, ◌++◌, length, Option, Some, None, if◌then◌else◌, ◌==◌, ◌&&◌}
 use mathlib.Core.Option.{some}
 use lib.ListN.{get_elem?}
 use Rattle.map_core.specs.declared.cell.Cell.{Cell}
@@ -41,6 +41,10 @@ abbrev pub total : (View → ℕ) → List View → ℕ
 total f [] = 0
 total f (v ∷ vs) = f v + total f vs
 
+-- a generation above the lowest, where a front fills three quarters of the one below it
+abbrev pub HasFilled : Layout → ℕ → List Entry → Type 0
+HasFilled l g front = (g ≡ lowest l) ⊎ (3 * cells_of (g - 1) ≤ 4 * length front)
+
 -- every entry is by a pass below n
 abbrev pub WhoBelow : ℕ → List Entry → Type 0
 WhoBelow n [] = Unit {0}
@@ -71,6 +75,7 @@ module _ (l : Layout) (mark : List ℕ) (s : State) where
     pub count_seen : v.count_seen ≤ s.count
     pub generation : is_in v.generation v.currents ≡ true
     pub currents : (c : ℕ) → is_in c v.currents ≡ true → (lowest l ≤ c) × (c ≤ s.current)
+    pub filled : HasFilled l v.generation v.front
 
   -- the first pass and its spare: the number of passes made is that of the views
   pub record HasFirst (views : List View) : Type 0 where
@@ -153,6 +158,8 @@ pub record PassFacts (fits : List ℕ → ℕ → ℕ → Type 0) (v : View) : T
   pub whole : v.number ≡ 0 → length v.numbers ≡ v.layout.passes - v.spare → by_any v.numbers v.front ≡ v.front
   pub generation : is_in v.generation v.currents ≡ true
   pub currents : (c : ℕ) → is_in c v.currents ≡ true → Within v.layout c
+  -- the pass's generation is the lowest, or its front fills three quarters of the one below
+  pub filled : HasFilled v.layout v.generation v.front
   pub seen : (g i : ℕ) → IsCell v.layout g i → IsWord (look v.known (key_place v.layout g i)) → IsWord (look v.known (value_place v.layout g i))
       → value_in v.front (look v.known (key_place v.layout g i)) ≡ Some (look v.known (value_place v.layout g i))
   -- where the key is seen closed from a current generation up to the last, and the last is seen full of other keys,

@@ -1,5 +1,5 @@
 -- Places tell cells apart, and the walk of a key passes each cell once.
-use Rattle.std.proofs.Common.{◌≡◌, ◌≢◌, ℕ, ◌+◌, ◌-◌, ◌*◌, ◌/◌, ◌^◌, ◌<◌, ◌≤◌, sym, ap, arith, mod-lt, pow_pos}
+use Rattle.std.proofs.Common.{◌≡◌, ◌≢◌, ℕ, ◌+◌, ◌-◌, ◌*◌, ◌/◌, ◌^◌, ◌<◌, ◌≤◌, refl, sym, ap, arith, mod-lt, pow_pos}
 use Rattle.std.proofs.lemmas.Nat.{pow-add}
 use mathlib.Core.Logic.{dite}
 use native.Mathlib.Decide.{ℕ_discrete, dec_lt}
@@ -15,6 +15,10 @@ last_within l = (omega arith, omega arith)
 pub lowest_within : (l : Layout) → Within l (lowest l)
 unfolding lowest
 lowest_within l = (omega arith, omega arith)
+
+pub lowest_zero : (l : Layout) → lowest l ≡ 0
+unfolding lowest
+lowest_zero l = refl
 
 -- each generation up to the last is one of the table's
 pub up_to_last : (l : Layout) (g : ℕ) → g ≤ l.last → Within l g

@@ -1,23 +1,24 @@
 -- What a helper sees of cells and blocks, as it sees more.
-use Rattle.std.proofs.Common.{◌≡◌, ◌≢◌, ◌⊎◌, ℕ, ◌+◌, ◌-◌, ◌*◌, ◌/◌, ◌<◌, ◌≤◌, true, List, length, Option, None, Some, refl, sym, ap, subst, ◌∙◌, inl, inr, arith}
+use Rattle.std.proofs.Common.{◌≡◌, ◌≢◌, ◌⊎◌, ℕ, ◌+◌, ◌-◌, ◌*◌, ◌/◌, ◌<◌, ◌≤◌, true, List, length, Option, None, Some, refl, sym, ap, subst, ◌∙◌, inl, inr, ⊎_elim, arith}
 use mathlib.Core.Logic.{dite}
 use native.Mathlib.Decide.{ℕ_discrete}
 use Rattle.map_core.specs.declared.cell.Cell.{Cell}
+use Rattle.map_core.specs.declared.entry.Entry.{Entry}
 use Rattle.map_core.specs.declared.layout.Layout.{Layout}
 use Rattle.map_core.specs.declared.view.View.{View}
 use Rattle.map_core.specs.Sizes.{cells_of}
 use Rattle.map_core.specs.Calls.{own}
 use Rattle.map_core.specs.History.{is_in}
-use Rattle.map_core.specs.Places.{key_place, value_place, finish_place, IsCell, IsBlock}
+use Rattle.map_core.specs.Places.{key_place, value_place, finish_place, Within, IsCell, IsBlock}
 use Rattle.map_core.specs.Machine.{greatest, IsWord, IsPublished, CellMoved, BlockMoved}
-use Rattle.map_core.specs.Passes.{look, drop_claim, PassFacts}
+use Rattle.map_core.specs.Passes.{look, drop_claim, AtRest, PassFacts}
 use Rattle.map_core.proofs.SizeLemmas.{blocks_whole}
 use Rattle.map_core.proofs.MovedLemmas.{cell_moved_on}
-use Rattle.map_cells.specs.Steps.{StepFrame, Rises, LeavesClaim, KeySeen, KeySealed, ValueSeen, ValueSealed, CurrentSeen, CountSeen, BlockFinished, Switched}
+use Rattle.map_cells.specs.Steps.{StepFrame, Rises, LeavesClaim, CurrentSeen, CountSeen, ValueSealed}
 use Rattle.map_cells.specs.Walks.{Walks}
 use Rattle.map_cells.specs.Puts.{IsSeenFrom, MayPut, PutsNew, PutsFound}
-use Rattle.map_cells.proofs.WalkLemmas.{walks_same, walks_then, key_walks, value_walks, rises_then, walks_rise}
-use Rattle.block_moves.specs.Moved.{HoldsWord, HoldsValue, IsSealed, IsClosedAt, SeenMoved, SeenFinished, IsFull, IsEarly, HelpsNothing, HelpsSwitched}
+use Rattle.map_cells.proofs.WalkLemmas.{walks_same, walks_then, walks_rise, rises_then, count_walks}
+use Rattle.block_moves.specs.Moved.{HoldsWord, HoldsValue, IsSealed, IsClosedAt, SeenMoved, SeenFinished, HelpsNothing, HelpsSwitched}
 
 -- what was seen stays so
 pub word_on : (g i k : ℕ) (v w : View) → StepFrame v w → HoldsWord g i k v → HoldsWord g i k w
@@ -67,9 +68,6 @@ module _ (fits : List ℕ → ℕ → ℕ → Type 0) where
         uncounted = a.uncounted;
         counted = a.counted;
       }
-
-  pub count_walks : (n : ℕ) (v w : View) → CountSeen fits n v w → Walks fits v w
-  count_walks n v w s = record { looks = s.looks; facts = s.facts; claim = λ e. s.claim ∙ e; uncounted = s.uncounted; counted = s.counted }
 
   -- the pair of a cell, as a publication
   pub pair_here : (g i k x : ℕ) (v : View) → IsCell v.layout g i → HoldsWord g i k v → HoldsValue g i x v → IsPublished v.layout (look v.known) g k x
@@ -158,6 +156,48 @@ module _ (fits : List ℕ → ℕ → ℕ → Type 0) where
             (λ e. subst (λ (n : ℕ). SeenFinished g n w) (sym e) finished)
             (λ ne. finished_on g b u w walks.looks.steps (at.finished b (omega arith)));
       }
+
+-- no move is due by the count that was loaded, nor by the pass's own entries
+module _ (fits : List ℕ → ℕ → ℕ → Type 0) (n m : ℕ) (v u w : View) (a : CurrentSeen fits n v u) (b : CountSeen fits m u w) where
+  pub in_generation : w.generation ≡ n
+  in_generation = b.looks.steps.generation ∙ a.generation
+
+  pub loaded_rise : Rises v w
+  loaded_rise = rises_then v u w a.rises (walks_rise fits u w (count_walks fits m u w b))
+
+  pub helps_nothing : AtRest v → (4 * m < 3 * cells_of n) ⊎ (n ≡ w.layout.last) → HelpsNothing w
+  helps_nothing rest = ⊎_elim
+      (λ (early : 4 * m < 3 * cells_of n).
+      let c : ℕ = cells_of n in
+      let d : ℕ = cells_of w.generation in
+      let same : d ≡ c = ap cells_of in_generation in
+      let o : ℕ = length (own w) in
+      let k : ℕ = length w.uncounted in
+      let none_left : k ≡ 0 = ap (λ (es : List Entry). length es) (loaded_rise.uncounted ∙ rest.uncounted) in
+      let low : o ≤ m + k = b.low in
+      let seen : w.count_seen ≡ m = b.seen in
+      let early' : 4 * m < 3 * c = early in
+      let loaded : 4 * w.count_seen < 3 * d = omega arith in
+      let few : 4 * o < 3 * d = omega arith in
+      record { loaded = inl loaded; few = inl few })
+      (λ (last : n ≡ w.layout.last). record { loaded = inr (in_generation ∙ last); few = inr (in_generation ∙ last) })
+
+  pub helps_switched : (z : View) → n ≢ w.layout.last → 3 * cells_of n ≤ 4 * m → Rises w z → n + 1 ≤ z.generation → HelpsSwitched (n + 1) v z
+  helps_switched z not_last due r reached =
+      let c : ℕ = cells_of n in
+      let d : ℕ = cells_of ((n + 1) - 1) in
+      let one_less : (n + 1) - 1 ≡ n = omega arith in
+      let same : d ≡ c = ap cells_of one_less in
+      let seen : w.count_seen ≡ m = b.seen in
+      let more : w.count_seen ≤ z.count_seen = r.count_seen in
+      let due' : 3 * c ≤ 4 * m = due in
+      let within : Within w.layout w.generation = b.facts.currents w.generation b.facts.generation in
+      let hi : w.generation ≤ w.layout.last = within.1 in
+      let here : w.generation ≡ n = in_generation in
+      let last : z.layout.last ≡ w.layout.last = ap (λ (l : Layout). l.last) r.layout in
+      let low : v.generation ≤ w.generation = loaded_rise.generation in
+      let goal : 3 * d ≤ 4 * z.count_seen = omega arith in
+      record { due = goal; below = omega arith; above = omega arith; reached = reached }
 
 -- a step within a block is a cell
 pub block_cell : (l : Layout) (g b step : ℕ) → IsBlock l g b → step < 64 → IsCell l g (64 * b + step)

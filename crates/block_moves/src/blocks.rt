@@ -16,7 +16,6 @@ fn key_or_seal<F: Facts>(cells: &Cells<F>, pass: &mut Pass<F>, cell: Cell) -> Op
     requires cell { IsCell cells.now.layout cell.generation cell.index }
     requires below { cell.generation < cells.now.layout.last }
     ensures of { IsOf cells.now pass.new }
-    ensures table { pass.new.table ≡ pass.old.table }
     ensures walk { Walks F.fits pass.old.knows pass.new.knows }
     ensures some { IfSome result (λ k. HoldsWord cell.generation cell.index k pass.new.knows) }
     ensures none { IfNone result (IsSealed cell.generation cell.index pass.new.knows) }
@@ -40,7 +39,6 @@ fn value_or_seal<F: Facts>(cells: &Cells<F>, pass: &mut Pass<F>, cell: Cell, key
     requires current { is_in cell.generation pass.old.knows.currents ≡ true }
     requires key { HoldsWord cell.generation cell.index key pass.old.knows }
     ensures of { IsOf cells.now pass.new }
-    ensures table { pass.new.table ≡ pass.old.table }
     ensures walk { Walks F.fits pass.old.knows pass.new.knows }
     ensures key { HoldsWord cell.generation cell.index key pass.new.knows }
     ensures some { IfSome result (λ x. HoldsValue cell.generation cell.index x pass.new.knows) }
@@ -67,7 +65,6 @@ fn carry<F: Facts>(cells: &Cells<F>, pass: &mut Pass<F>, cell: Cell, key: u64, v
     requires key { HoldsWord cell.generation cell.index key pass.old.knows }
     requires value { HoldsValue cell.generation cell.index value pass.old.knows }
     ensures of { IsOf cells.now pass.new }
-    ensures table { pass.new.table ≡ pass.old.table }
     ensures walk { Walks F.fits pass.old.knows pass.new.knows }
     ensures moved { MatchBool result
         (SeenMoved cell.generation cell.index pass.new.knows) (IsFull pass.new.knows) }
@@ -87,7 +84,6 @@ fn move_cell<F: Facts>(cells: &Cells<F>, pass: &mut Pass<F>, cell: Cell) -> bool
     requires current { is_in cell.generation pass.old.knows.currents ≡ true }
     requires free { pass.old.knows.claim ≡ None }
     ensures of { IsOf cells.now pass.new }
-    ensures table { pass.new.table ≡ pass.old.table }
     ensures walk { Walks F.fits pass.old.knows pass.new.knows }
     ensures moved { MatchBool result
         (SeenMoved cell.generation cell.index pass.new.knows) (IsFull pass.new.knows) }
@@ -110,7 +106,6 @@ pub fn move_block<F: Facts>(cells: &Cells<F>, pass: &mut Pass<F>, generation: u3
     requires current { is_in generation pass.old.knows.currents ≡ true }
     requires free { pass.old.knows.claim ≡ None }
     ensures of { IsOf cells.now pass.new }
-    ensures table { pass.new.table ≡ pass.old.table }
     ensures walk { Walks F.fits pass.old.knows pass.new.knows }
     ensures finished { MatchBool result
         (SeenFinished generation block pass.new.knows) (IsFull pass.new.knows) }

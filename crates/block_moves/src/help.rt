@@ -28,7 +28,6 @@ fn move_taken<F: Facts>(cells: &Cells<F>, pass: &mut Pass<F>, generation: u32, b
     requires current { is_in generation pass.old.knows.currents ≡ true }
     requires free { pass.old.knows.claim ≡ None }
     ensures of { IsOf cells.now pass.new }
-    ensures table { pass.new.table ≡ pass.old.table }
     ensures walk { Walks F.fits pass.old.knows pass.new.knows }
     ensures full { MatchBool result (Unit {0}) (IsFull pass.new.knows) }
 {
@@ -55,7 +54,6 @@ fn move_unless_done<F: Facts>(cells: &Cells<F>, pass: &mut Pass<F>, generation: 
     requires current { is_in generation pass.old.knows.currents ≡ true }
     requires free { pass.old.knows.claim ≡ None }
     ensures of { IsOf cells.now pass.new }
-    ensures table { pass.new.table ≡ pass.old.table }
     ensures walk { Walks F.fits pass.old.knows pass.new.knows }
     ensures finished { MatchBool result
         (SeenFinished generation block pass.new.knows) (IsFull pass.new.knows) }
@@ -74,7 +72,6 @@ fn move_rest<F: Facts>(cells: &Cells<F>, pass: &mut Pass<F>, generation: u32, bl
     requires current { is_in generation pass.old.knows.currents ≡ true }
     requires free { pass.old.knows.claim ≡ None }
     ensures of { IsOf cells.now pass.new }
-    ensures table { pass.new.table ≡ pass.old.table }
     ensures walk { Walks F.fits pass.old.knows pass.new.knows }
     ensures finished { MatchBool result
         ((b : ℕ) → b < blocks → SeenFinished generation b pass.new.knows)
@@ -100,7 +97,6 @@ fn move_generation<F: Facts>(cells: &Cells<F>, pass: &mut Pass<F>, generation: u
     requires free { pass.old.knows.claim ≡ None }
     requires due { 3 * cells_of generation ≤ 4 * pass.old.knows.count_seen }
     ensures of { IsOf cells.now pass.new }
-    ensures table { pass.new.table ≡ pass.old.table }
     ensures rises { Rises pass.old.knows pass.new.knows }
     ensures facts { PassFacts F.fits pass.new.knows }
     ensures moved { MatchBool result

@@ -18,7 +18,7 @@ use Rattle.map_core.proofs.WordLemmas.{passed_on, reaches_on, closed_on, publish
 use Rattle.map_core.proofs.HistoryLemmas.{by_append}
 use Rattle.map_core.proofs.CallLemmas.{starts_same, starts_trans}
 use Rattle.map_core.proofs.SizeLemmas.{cells_pos}
-use Rattle.map_cells.specs.Steps.{ClosedTo, SettledTo, StepFrame, Looks, Rises, MayPublish, KeySeen, ValueSeen}
+use Rattle.map_cells.specs.Steps.{ClosedTo, SettledTo, StepFrame, Looks, Rises, MayPublish, KeySeen, ValueSeen, CountSeen}
 use Rattle.map_cells.specs.Walks.{Walks}
 use Rattle.map_cells.specs.Puts.{IsShut, IsPast, MayPut}
 
@@ -85,6 +85,9 @@ module _ (fits : List ℕ → ℕ → ℕ → Type 0) where
         uncounted = b.uncounted ∙ a.uncounted;
         counted = b.counted ∙ a.counted;
       }
+
+  pub count_walks : (n : ℕ) (v w : View) → CountSeen fits n v w → Walks fits v w
+  count_walks n v w s = record { looks = s.looks; facts = s.facts; claim = λ e. s.claim ∙ e; uncounted = s.uncounted; counted = s.counted }
 
   pub key_walks : (g i n : ℕ) (v w : View) → KeySeen fits g i n v w → Walks fits v w
   key_walks g i n v w s = record { looks = s.looks; facts = s.facts; claim = λ e. s.claim ∙ e; uncounted = s.uncounted; counted = s.counted }

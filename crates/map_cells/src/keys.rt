@@ -64,10 +64,10 @@ impl<F: Facts> Cells<F> {
             pass.old.knows pass.new.knows }
     {
         let word = key_word(&self.layout, cell);
-        let before = self
+        let old = self
             .table
             .shared
             .compare_exchange::<SealKey<F>>(&mut pass.seat, word, 0, u64::MAX);
-        KeyWord::of(before)
+        KeyWord::of(old)
     }
 }

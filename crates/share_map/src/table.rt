@@ -22,7 +22,7 @@ use std::marker::Model;
 /// A map from keys to values that threads share without locks.
 #[derive(Drop)]
 pub struct Table<F: Facts> {
-    cells: Cells<F>,
+    pub(crate) cells: Cells<F>,
 }
 
 impl<F: Facts> Model for Table<F> {

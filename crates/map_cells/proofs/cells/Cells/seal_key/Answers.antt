@@ -15,8 +15,8 @@ use Rattle.map_cells.proofs.cells.Cells.seal_key.Goals as goal
 pub key_word-word-requires : goal.key_word-word-requires
 key_word-word-requires g c = cell_there c.self.inside.layout c.args.self.now.layout c.args.cell.generation c.args.cell.index (ap (λ (p : CellsView). p.layout) c.self.view_is) c.requires.cell
 
-pub compare_exchange-before-requires : goal.compare_exchange-before-requires
-compare_exchange-before-requires g c =
+pub compare_exchange-old-requires : goal.compare_exchange-old-requires
+compare_exchange-old-requires g c =
     let key = c.self.inside.table.shared.key in
     let slots : ℕ = c.self.inside.table.shared.table_id.slots in
     let me = c.pass.inside.seat.me in
@@ -46,5 +46,5 @@ invariant_of-pass g c =
     let cell = cell_there v.layout c.args.self.now.layout at i seat.layout c.requires.cell in
     let word : ℕ = c.key_word-word.result in
     let place = key_there v.layout c.self.inside.layout at i word seat.inside c.key_word-word.ensures.place in
-    let s = (c.compare_exchange-before.ensures.2.sealed at i cell place).leaves in
-    fields_after g.F.Facts.fits c.pass.inside.seat.me c.compare_exchange-before.new.seat.me c.pass.inside.number c.pass.inside.spare c.pass.inside.entries c.pass.inside.count_seen c.pass.inside.generation c.pass.invariant c.compare_exchange-before.ensures.2.slots s.looks.steps s.counted s.same_count s.facts
+    let s = (c.compare_exchange-old.ensures.2.sealed at i cell place).leaves in
+    fields_after g.F.Facts.fits c.pass.inside.seat.me c.compare_exchange-old.new.seat.me c.pass.inside.number c.pass.inside.spare c.pass.inside.entries c.pass.inside.count_seen c.pass.inside.generation c.pass.invariant c.compare_exchange-old.ensures.2.slots s.looks.steps s.counted s.same_count s.facts

@@ -1,11 +1,11 @@
-use Rattle.std.proofs.Common.{◌<◌, ℕ, sym, subst}
+use Rattle.std.proofs.Common.{◌<◌, ℕ, arith, sym, subst}
 use mathlib.Core.Option.{none}
 use Rattle.atomic_table.specs.Table.{Allows, step}
 use Rattle.map_core.specs.declared.view.View.{View}
 use Rattle.map_cells.specs.declared.about.About.{About}
 use Rattle.map_core.specs.declared.places.TheConstants.{CURRENT_WORD}
 use Rattle.map_cells.specs.Rule.{TableHolds, CurrentLooked}
-use Rattle.map_cells.proofs.WordSteps.{has_current}
+use Rattle.map_cells.proofs.WordSteps.{has_current, within_low}
 use Rattle.map_cells.proofs.Moving.{current_allowed}
 use Rattle.map_cells.proofs.StepFacts.{seated}
 use Rattle.map_cells.proofs.cells.Cells.current.Goals as goal
@@ -22,3 +22,10 @@ load-found-requires g c =
       subst (λ (x : About). Allows (TableHolds g.F.Facts.fits x) slots c.pass.inside.seat.id me CURRENT_WORD (λ n. n) (CurrentLooked g.F.Facts.fits (step slots CURRENT_WORD 0 0 none) me)) seat.about_is
           (current_allowed g.F.Facts.fits key.tag slots c.pass.inside.seat.id v me.1 c.pass.invariant.facts),
     )
+
+pub overflow_cast-generation : goal.overflow_cast-generation
+overflow_cast-generation g c =
+    let s = c.load-found.ensures.2.seen in
+    let w : View = c.load-found.new.seat.me.0 in
+    let low = within_low w.layout w.generation (s.facts.currents w.generation s.facts.generation) in
+    let is = s.generation in omega arith

@@ -1,4 +1,6 @@
-use Rattle.std.proofs.Common.{◌≡◌, ◌<◌, ◌≤◌, ◌+◌, ◌*◌, ◌/◌, ◌==◌, ℕ, sym, ap, subst}
+use Rattle.std.proofs.Common.{◌≡◌, ◌<◌, ◌≤◌, ◌+◌, ◌*◌, ◌/◌, ◌==◌, ℕ, Bool, sym, ap, subst, ◌∙◌, arith, ne_eqb}
+use mathlib.Core.Logic.{dite}
+use native.Mathlib.Decide.{ℕ_discrete}
 use mathlib.Core.Option.{none}
 use prog.Atomic.{either}
 use Rattle.atomic_table.specs.Table.{Allows, step}
@@ -35,4 +37,13 @@ pub after_exchange-current-requires-clause-generation : goal.after_exchange-curr
 after_exchange-current-requires-clause-generation g c = within_low c.args.self.now.layout c.args.generation c.requires.generation
 
 pub after_exchange-current-requires-clause-found : goal.after_exchange-current-requires-clause-found
-after_exchange-current-requires-clause-found g c = ?
+after_exchange-current-requires-clause-found g c =
+    let n : ℕ = c.compare_exchange-found.result in
+    let at : ℕ = c.args.generation in
+    let s = c.compare_exchange-found.ensures.2.switched in
+    let w : View = c.compare_exchange-found.new.seat.me.0 in
+    let low = within_low w.layout w.generation (s.seen.facts.currents w.generation s.seen.facts.generation) in
+    let here = within_low c.args.self.now.layout at c.requires.generation in
+    dite (ℕ_discrete n at)
+    (λ e. omega arith)
+    (λ ne. let is : w.generation ≡ n = s.seen.generation ∙ ap (λ (b : Bool). either b (at + 1) n) (ne_eqb n at ne) in omega arith)

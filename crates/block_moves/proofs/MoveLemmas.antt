@@ -1,5 +1,5 @@
 -- What a helper sees of cells and blocks, as it sees more.
-use Rattle.std.proofs.Common.{◌≡◌, ◌≢◌, ◌⊎◌, ℕ, ◌+◌, ◌-◌, ◌*◌, ◌/◌, ◌<◌, ◌≤◌, Bool, true, false, List, length, MatchBool, Option, None, Some, refl, sym, ap, subst, ◌∙◌, inl, inr, ⊎_elim, arith}
+use Rattle.std.proofs.Common.{◌≡◌, ◌≢◌, ◌⊎◌, ℕ, ◌+◌, ◌-◌, ◌*◌, ◌/◌, ◌<◌, ◌≤◌, true, List, length, Option, None, Some, refl, sym, ap, subst, ◌∙◌, inl, inr, ⊎_elim, arith}
 use mathlib.Core.Logic.{dite}
 use native.Mathlib.Decide.{ℕ_discrete}
 use Rattle.map_core.specs.declared.cell.Cell.{Cell}
@@ -206,10 +206,3 @@ block_cell l g b step a lt =
     let whole : 64 * (n / 64) ≡ n = blocks_whole g in
     let small : b < n / 64 = a.1 in
     let goal : 64 * b + step < n = omega arith in (a.0, goal)
-
--- what an answer of yes or no stands for
-pub by_true : {A B : Type 0} (b : Bool) → b ≡ true → MatchBool b A B → A
-by_true {A} {B} b is m = subst (λ (x : Bool). MatchBool x A B) is m
-
-pub by_false : {A B : Type 0} (b : Bool) → b ≡ false → MatchBool b A B → B
-by_false {A} {B} b is m = subst (λ (x : Bool). MatchBool x A B) is m

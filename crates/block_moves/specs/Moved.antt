@@ -6,8 +6,8 @@ use Rattle.map_core.specs.Places.{key_place, value_place, finish_place}
 use Rattle.map_core.specs.Machine.{greatest, IsWord, CellMoved}
 use Rattle.map_core.specs.Calls.{own}
 use Rattle.map_core.specs.Passes.{look}
-use Rattle.block_moves.specs.declared.help.Helped.{Helped}
-use Rattle.block_moves.specs.declared.help.Helped.TheVariants.{Nothing, Switched, LastFull}
+use Rattle.block_moves.specs.declared.moves.Helped.{Helped}
+use Rattle.block_moves.specs.declared.moves.Helped.TheVariants.{Nothing, Switched, LastFull}
 
 -- the cell is seen with the key k
 pub record HoldsWord (g i k : ℕ) (w : View) : Type 0 where

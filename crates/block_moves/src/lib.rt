@@ -8,7 +8,7 @@
 #![tactic(auto)]
 
 mod blocks;
-mod help;
+mod moves;
 
 pub use blocks::move_block;
-pub use help::{Helped, help};
+pub use moves::{Helped, help};

@@ -1,4 +1,4 @@
-use Rattle.std.proofs.Common.{ℕ, arith}
+use Rattle.std.proofs.Common.{ℕ, ◌+◌, arith}
 use Rattle.map_core.specs.declared.view.View.{View}
 use Rattle.map_core.proofs.PlaceLemmas.{up_to_last}
 use Rattle.map_cells.proofs.WordSteps.{last_low}
@@ -54,7 +54,7 @@ returns-in-Found-clause-moved g c =
     let at : ℕ = c.args.cell.generation in
     let i : ℕ = c.args.cell.index in
     let a = cell_there v.layout c.args.cells.now.layout at i c.requires.of.layout c.requires.cell in
-    found_moved g.F.Facts.fits at i c.args.key c.args.value v w a c.requires.key c.requires.value c.in-Found.found c.in-Found.ensures.put
+    found_moved g.F.Facts.fits at i c.args.key c.args.value v w a c.requires.key c.requires.value c.in-Found._found c.in-Found.ensures.put
 
 pub returns-in-Exhausted-clause-walk : goal.returns-in-Exhausted-clause-walk
 returns-in-Exhausted-clause-walk g c = c.in-Exhausted.ensures.put.walks

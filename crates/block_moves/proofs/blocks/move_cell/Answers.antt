@@ -31,8 +31,8 @@ carry-requires-clause-current g c =
 pub carry-requires-clause-free : goal.carry-requires-clause-free
 carry-requires-clause-free g c = c.value_or_seal.ensures.walk.claim (c.key_or_seal.ensures.walk.claim c.requires.free)
 
-pub returns-in-Some-clause-walk : goal.returns-in-Some-clause-walk
-returns-in-Some-clause-walk g c =
+pub returns-in-Some-value_or_seal-clause-walk : goal.returns-in-Some-value_or_seal-clause-walk
+returns-in-Some-value_or_seal-clause-walk g c =
     let v : View = c.args.pass.now.knows in
     let u : View = c.key_or_seal.new.pass.knows in
     walks_then g.F.Facts.fits v c.value_or_seal.new.pass.knows c.carry.new.pass.knows (walks_then g.F.Facts.fits v u c.value_or_seal.new.pass.knows c.key_or_seal.ensures.walk c.value_or_seal.ensures.walk) c.carry.ensures.walk

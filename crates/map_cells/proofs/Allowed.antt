@@ -5,13 +5,13 @@ use mathlib.Core.Option.{some, none}
 use lib.ListN.{get_elem?}
 use Rattle.boxcar.specs.declared.tag.Tag.{Tag}
 use Rattle.atomic_table.proofs.Lists.{set_here}
-use Rattle.atomic_table.specs.Table.{State, step, keeps, Allows}
+use Rattle.atomic_table.specs.Table.{State, Me, step, Act, keeps, Valid, stepped, carried_after, Allows}
 use Rattle.map_core.specs.declared.entry.Entry.{Entry}
 use Rattle.map_core.specs.declared.view.View.{View}
 use Rattle.map_core.specs.History.{value_in, by_any, StartsWithOwn}
 use Rattle.map_core.specs.declared.places.TheConstants.{COUNT_WORD}
 use Rattle.map_core.specs.Places.{offset, word_count, key_place, value_place, current_in, cells_in, IsCell}
-use Rattle.map_core.specs.Machine.{greatest, IsWord, Reaches, IsClosed, IsPublished, state_of, Sound}
+use Rattle.map_core.specs.Machine.{greatest, IsWord, Keeps, Reaches, IsClosed, IsPublished, state_of, Sound}
 use Rattle.map_core.specs.Events.{Event, IsStep, Lawful}
 use Rattle.map_core.specs.Passes.{look, cell, drop_claim, all_numbers, placed, PassAt, Together, Turn, PassFacts}
 use Rattle.map_core.specs.Knowing.{sees, reads, counts_seen}
@@ -26,7 +26,7 @@ use Rattle.map_core.proofs.FactLemmas.{whole_facts}
 use Rattle.map_core.proofs.AbsentLemmas.{absent_at_empty, absent_unset}
 use Rattle.map_cells.specs.declared.about.About.{About}
 use Rattle.map_cells.specs.Steps.{ClosedTo, Looks}
-use Rattle.map_cells.specs.Whole.{MakesStep}
+use Rattle.map_cells.specs.Whole.{MakesStep, MakesLoad}
 use Rattle.map_cells.specs.Rule.{TableHolds, KeyLooked, ValueLooked, CountLooked}
 use Rattle.map_cells.proofs.WordSteps.{same_place}
 
@@ -45,7 +45,7 @@ module _ (fits : List ℕ → ℕ → ℕ → Type 0) (t : Tag) (id : ℕ) (v : 
   pub closed_now : (g k : ℕ) → 0 < k → (seen : ClosedTo v g k) → (h : ℕ) → seen.from ≤ h → h < g → IsClosed v.layout (cells_in v.layout s.words) h k
   closed_now g k pos seen h low below = closed_on v.layout (look v.known) (cells_in v.layout s.words) pass_now.knows h k pos (seen.closed h low below)
 
-  pub from_now : (g k : ℕ) → (seen : ClosedTo v g k) → seen.from ≤ current_in v.layout s.words
+  pub from_now : (g k : ℕ) → (seen : ClosedTo v g k) → seen.from ≤ current_in s.words
   from_now g k seen = (pass_now.currents seen.from seen.current).1
 
   -- where a walk ends at an empty key word, the history lacks the key
@@ -103,6 +103,17 @@ module _ (fits : List ℕ → ℕ → ℕ → Type 0) (t : Tag) (id : ℕ) (v : 
         known = turn.at.knows;
       }
 
+  -- or that it was a load
+  pub made_load : (w : View) → Turn v.layout t.numbers (state_of v.layout s.words kept.log) (state_of v.layout s.words kept.log) id v w → MakesLoad fits v w
+  made_load w turn =
+      record {
+        events = kept.events;
+        at = state_of v.layout s.words kept.log;
+        lawful = subst (λ (x : List ℕ). Lawful v.layout (fits x) kept.events (state_of v.layout s.words kept.log)) (sym pass_now.tag) kept.lawful;
+        history = turn.whole;
+        known = turn.at.knows;
+      }
+
   -- a load keeps the rule
   pub keep_load : (q : ℕ) (w : View) → Turn v.layout t.numbers (state_of v.layout s.words kept.log) (state_of v.layout s.words kept.log) id v w
       → TableHolds fits (about v t) record { words = set s.words q (slice_index s.words q); homes = s.homes; views = set s.views id w }
@@ -112,10 +123,10 @@ module _ (fits : List ℕ → ℕ → ℕ → Type 0) (t : Tag) (id : ℕ) (v : 
   pub load_facts : (w : View) → Turn v.layout t.numbers (state_of v.layout s.words kept.log) (state_of v.layout s.words kept.log) id v w → w.front ≡ kept.log → w.beside ≡ [] → w.beside_numbers ≡ [] → PassFacts fits w
   load_facts w turn = turn_facts s.words kept.log kept.events w kept.lawful kept.size turn
 
-  -- one more word was seen, and nothing else changed
-  pub saw : (q n : ℕ) → cells_in v.layout s.words q ≡ n → (w : View) → w.known ≡ (q, n) ∷ v.known → w.front ≡ kept.log
+  -- one more word was seen, among the words D that a step left, and nothing else changed
+  pub saw_in : (D : ℕ → ℕ) → Keeps (look v.known) D → (q n : ℕ) → D q ≡ n → (w : View) → w.known ≡ (q, n) ∷ v.known → w.front ≡ kept.log
       → (w.layout ≡ v.layout) × (w.tag ≡ v.tag) × (w.number ≡ v.number) × (w.numbers ≡ v.numbers) × (w.spare ≡ v.spare) × (w.generation ≡ v.generation) × (w.currents ≡ v.currents) × (w.count_seen ≡ v.count_seen) → Looks v w
-  saw q n is w known front same =
+  saw_in D knows q n is w known front same =
       let mine : StartsWithOwn v.numbers v.front w.front = subst (StartsWithOwn v.numbers v.front) (sym front) pass_now.front in
       record {
         steps = record {
@@ -127,12 +138,21 @@ module _ (fits : List ℕ → ℕ → ℕ → Type 0) (t : Tag) (id : ℕ) (v : 
           generation = same.5;
           currents = same.6;
           front = record { rest = mine.rest; joins = mine.joins };
-          seen = λ x h. ap (λ (k : List (ℕ × ℕ)). look k x) known ∙ seen_more v.known (cells_in v.layout s.words) q n x is pass_now.knows h;
+          seen = λ x h. ap (λ (k : List (ℕ × ℕ)). look k x) known ∙ seen_more v.known D q n x is knows h;
           count_seen = let e = same.7 in omega arith;
         };
         mine = mine;
         own = ap (λ (ns : List ℕ). by_any ns w.front) same.3 ∙ own_stays v w.front mine;
       }
+
+  -- the same among the words that were there
+  pub saw : (q n : ℕ) → cells_in v.layout s.words q ≡ n → (w : View) → w.known ≡ (q, n) ∷ v.known → w.front ≡ kept.log
+      → (w.layout ≡ v.layout) × (w.tag ≡ v.tag) × (w.number ≡ v.number) × (w.numbers ≡ v.numbers) × (w.spare ≡ v.spare) × (w.generation ≡ v.generation) × (w.currents ≡ v.currents) × (w.count_seen ≡ v.count_seen) → Looks v w
+  saw = saw_in (cells_in v.layout s.words) pass_now.knows
+
+-- what an exchange of the word q for x owes where it leaves y
+abbrev pub Owes : (List ℕ → ℕ → ℕ → Type 0) → Tag → ℕ → View → List (ℕ × Unit {0}) → State (Unit {0}) View → ℕ → ℕ → (ℕ → Me (Unit {0}) View → Type 0) → ℕ → Type 0
+Owes fits t id v c s q n then_holds y = (w : View) × (act : Act (Unit {0})) × Valid s.homes c act × TableHolds fits (about v t) (stepped s q y id c w act) × then_holds n (w, carried_after c act)
 
 module _ (fits : List ℕ → ℕ → ℕ → Type 0) (t : Tag) (slots id : ℕ) (v : View) (c : List (ℕ × Unit {0})) (facts : PassFacts fits v) where
   pub look_allowed : (g i q : ℕ) → IsCell v.layout g i → q ≡ key_place v.layout g i + offset v.layout → Allows (TableHolds fits (about v t)) slots id (v, c) q (λ n. n) (KeyLooked fits (step slots q 0 0 none) (v, c))

@@ -5,14 +5,14 @@ use lib.ListN.{get_elem?}
 use prog.Atomic.{either}
 use Rattle.boxcar.specs.declared.tag.Tag.{Tag}
 use Rattle.atomic_table.proofs.Lists.{set_here, exchanged}
-use Rattle.atomic_table.specs.Table.{State, Me, step, Act, keeps, Valid, stepped, carried_after, Allows}
+use Rattle.atomic_table.specs.Table.{State, step, keeps, Allows}
 use Rattle.map_core.specs.declared.entry.Entry.{Entry}
 use Rattle.map_core.specs.declared.layout.Layout.{Layout}
 use Rattle.map_core.specs.declared.view.View.{View}
 use Rattle.map_core.specs.Sizes.{cells_of}
 use Rattle.map_core.specs.History.{value_in, by_any}
 use Rattle.map_core.specs.declared.places.TheConstants.{CURRENT_WORD, COUNT_WORD}
-use Rattle.map_core.specs.Places.{lowest, offset, word_count, key_place, value_place, current_in, count_in, cells_in, IsCell}
+use Rattle.map_core.specs.Places.{offset, word_count, key_place, value_place, current_in, count_in, cells_in, IsCell}
 use Rattle.map_core.specs.Machine.{greatest, IsWord, Keeps, state_of, Reaches, IsPublished, IsSettled}
 use Rattle.map_core.specs.Events.{claims, publishes, counts, entry, and_then, WritesWord, IsStep}
 use Rattle.map_core.specs.Calls.{own}
@@ -27,14 +27,10 @@ use Rattle.map_core.proofs.TurnLemmas.{look_hit, seen_more, sees_turn, reads_tur
 use Rattle.map_core.proofs.CountLemmas.{log_small, total_le, count_le}
 use Rattle.map_cells.specs.Steps.{ClosedTo, SettledTo, StepFrame, MayPublish, KeyTried, ValueTried}
 use Rattle.map_cells.specs.Rule.{TableHolds, Claimed, Published, Counted, Settled}
-use Rattle.map_cells.proofs.WordSteps.{most_words, words_small, has_count, key_within, value_within, same_place, writes_word, count_cells}
-use Rattle.map_cells.proofs.Allowed.{about, sound_now, pass_now, lacks_unset, has_seen, keep_turn, turn_facts, made, keep_load, load_facts, saw}
+use Rattle.map_cells.proofs.WordSteps.{most_words, words_small, has_count, key_within, value_within, same_place, writes_word, first_cells, first_takes}
+use Rattle.map_cells.proofs.Allowed.{about, Owes, sound_now, pass_now, lacks_unset, has_seen, keep_turn, turn_facts, made, keep_load, load_facts, saw}
 
 module _ (fits : List ℕ → ℕ → ℕ → Type 0) (t : Tag) (slots id : ℕ) (v : View) (c : List (ℕ × Unit {0})) (facts : PassFacts fits v) where
-  -- what an exchange of the word q for x owes where it leaves y
-  abbrev Owes : State (Unit {0}) View → ℕ → ℕ → (ℕ → Me (Unit {0}) View → Type 0) → ℕ → Type 0
-  Owes s q n then_holds y = (w : View) × (act : Act (Unit {0})) × Valid s.homes c act × TableHolds fits (about v t) (stepped s q y id c w act) × then_holds n (w, carried_after c act)
-
   claim_at : (g i k : ℕ) → IsCell v.layout g i → IsWord k → v.claim ≡ None → Reaches v.layout (look v.known) g i k → SettledTo v g k
       → Allows (TableHolds fits (about v t)) slots id (v, c) (key_place v.layout g i + offset v.layout) (λ n. either (n == 0) k n) (Claimed fits (step slots (key_place v.layout g i + offset v.layout) 0 k none) (v, c))
   claim_at g i k a word free walk settled s kept homes at small =
@@ -46,11 +42,11 @@ module _ (fits : List ℕ → ℕ → ℕ → Type 0) (t : Tag) (slots id : ℕ)
       let so = sound_now fits t id v facts.live s kept at in
       let here = pass_now fits t id v facts.live s kept at in
       let low : q < length s.words = subst (λ (x : ℕ). q < x) (sym kept.size) (key_within l g i a) in
-      exchanged n 0 k (Owes s q n (Claimed fits (step slots q 0 k none) (v, c)))
+      exchanged n 0 k (Owes fits t id v c s q n (Claimed fits (step slots q 0 k none) (v, c)))
       (λ zero_there.
       let ws : List ℕ = set s.words q k in
       let wr : WritesWord p 0 k (state_of l s.words kept.log) (state_of l ws kept.log) = subst (λ (x : ℕ). WritesWord p x k (state_of l s.words kept.log) (state_of l ws kept.log)) zero_there (writes_word l s.words kept.log kept.log p k low) in
-      let settle : (h : ℕ) → current_in l s.words ≤ h → h < g → IsSettled l C h k = λ h up below.
+      let settle : (h : ℕ) → current_in s.words ≤ h → h < g → IsSettled l C h k = λ h up below.
       let b = (here.currents settled.from settled.current).1 in
       settled_on l (look v.known) C here.knows h k word.0 (settled.settled h (omega arith) below) in
       let is_step : IsStep l (fits t.numbers) (claims g i k) (state_of l s.words kept.log) (state_of l ws kept.log) = record { cell = a; key = word; reached = reaches_on l (look v.known) C here.knows g i k walk; settled = settle; word = wr; history = refl } in
@@ -144,7 +140,7 @@ module _ (fits : List ℕ → ℕ → ℕ → Type 0) (t : Tag) (slots id : ℕ)
       let one = value_value l g i h j a b (same_place l p (value_place l h j) at_q) in
       let same : k ≡ m = sym key ∙ (ap (λ (y : ℕ × ℕ). look v.known (key_place l y.0 y.1)) (λ z. (one.0 z, one.1 z)) ∙ key_m) in
       subst (λ (y : ℕ × ℕ × ℕ). ValueTried fits y.0 y.1 y.2 x n v w) (λ z. (one.0 z, one.1 z, same z)) tried in
-      exchanged n 0 x (Owes s q n (Published fits (step slots q 0 x none) (v, c)))
+      exchanged n 0 x (Owes fits t id v c s q n (Published fits (step slots q 0 x none) (v, c)))
       (λ zero_there.
       let ws : List ℕ = set s.words q x in
       let e : Entry = entry v.number k x in
@@ -287,9 +283,9 @@ module _ (fits : List ℕ → ℕ → ℕ → Type 0) (t : Tag) (slots id : ℕ)
       let ws : List ℕ = set s.words COUNT_WORD (n + 1) in
       let raised : count_in ws ≡ n + 1 = get_or-set_same s.words COUNT_WORD (n + 1) 0 low in
       let first : slice_index ws CURRENT_WORD ≡ slice_index s.words CURRENT_WORD = get_or-set_other s.words COUNT_WORD CURRENT_WORD (n + 1) 0 (λ e. omega arith) in
-      let current : current_in l ws ≡ current_in l s.words = ap (λ (x : ℕ). lowest l + x) first in
-      let cells = count_cells l s.words (n + 1) in
-      let is_step : IsStep l (fits t.numbers) counts (state_of l s.words kept.log) (state_of l ws kept.log) = record { rests = record { cells = cells; history = refl }; count = raised; current = current; takes = λ q. refl } in
+      let current : current_in ws ≡ current_in s.words = first in
+      let cells = first_cells l s.words COUNT_WORD (n + 1) (omega arith) in
+      let is_step : IsStep l (fits t.numbers) counts (state_of l s.words kept.log) (state_of l ws kept.log) = record { rests = record { cells = cells; history = refl }; count = raised; current = current; takes = first_takes l s.words COUNT_WORD (n + 1) (omega arith) } in
       let lawful = and_then kept.events (state_of l s.words kept.log) counts (state_of l ws kept.log) kept.lawful is_step in
       let w : View = tallies v kept.log (count_in ws) in
       let turn = tallies_turn l t.numbers (state_of l s.words kept.log) id v facts.live here (state_of l ws kept.log) cells refl raised current some_left in

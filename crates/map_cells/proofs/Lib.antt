@@ -2,7 +2,8 @@ pub mod WordSteps
 pub mod Allowed
 pub mod StepFacts
 pub mod Exchanges
+pub mod WalkLemmas
+pub mod Moving
 pub mod Openings
 pub mod CallFacts
-pub mod WalkLemmas
 pub mod PutLemmas

@@ -16,6 +16,7 @@ use Rattle.map_core.proofs.JoinLemmas.{join_keeps}
 use Rattle.map_core.proofs.StartLemmas.{start_together}
 use Rattle.map_cells.specs.declared.about.About.{About}
 use Rattle.map_cells.specs.Rule.{TableHolds, first_of}
+use Rattle.map_cells.proofs.WordSteps.{takes_zero}
 use Rattle.map_cells.proofs.Allowed.{about}
 
 zeros : (n q : ℕ) → slice_index (replicate n 0) q ≡ 0
@@ -25,14 +26,15 @@ zeros (suc n) (suc q) = zeros n q
 
 -- all words 0, and the first pass alone
 pub opens : (fits : List ℕ → ℕ → ℕ → Type 0) (a : About) (ws : List ℕ) → ws ≡ replicate (word_count a.layout) 0 → length ws ≡ word_count a.layout → TableHolds fits a (opening ws [] (first_of a))
+unfolding lowest
 opens fits a ws is size =
     let l : Layout = a.layout in
     let none_set : (q : ℕ) → slice_index ws q ≡ 0 = λ q. ap (λ (x : List ℕ). slice_index x q) is ∙ zeros (word_count l) q in
-    let current : current_in l ws ≡ lowest l = let z = none_set CURRENT_WORD in let x : ℕ = slice_index ws CURRENT_WORD in let y : ℕ = lowest l in let z' : x ≡ 0 = z in let goal : y + x ≡ y = omega arith in goal in
+    let current : current_in ws ≡ lowest l = none_set CURRENT_WORD in
     record {
       events = [];
       log = [];
-      lawful = at_start (state_of l ws []) record { cells = λ q. none_set (q + offset l); current = current; count = none_set COUNT_WORD; takes = λ q. refl; history = refl };
+      lawful = at_start (state_of l ws []) record { cells = λ q. none_set (q + offset l); current = current; count = none_set COUNT_WORD; takes = takes_zero l ws none_set; history = refl };
       together = start_together l a.tag.numbers (state_of l ws []) (λ q. none_set (q + offset l)) current (none_set COUNT_WORD) refl;
       size = size;
     }

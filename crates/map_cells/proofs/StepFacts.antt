@@ -5,7 +5,7 @@ use Rattle.atomic_table.specs.Table.{Me}
 use Rattle.map_core.specs.declared.entry.Entry.{Entry}
 use Rattle.map_core.specs.declared.layout.Layout.{Layout}
 use Rattle.map_core.specs.declared.view.View.{View}
-use Rattle.map_core.specs.Places.{offset, key_place, value_place, IsCell}
+use Rattle.map_core.specs.Places.{offset, key_place, value_place, finish_place, Within, IsCell, IsBlock}
 use Rattle.map_core.specs.History.{StartsWith}
 use Rattle.map_core.specs.Passes.{PassFacts}
 use Rattle.map_core.specs.Knowing.{halved}
@@ -14,7 +14,7 @@ use Rattle.map_cells.specs.Seen.{CellsView, PassView, IsOf, Continues}
 use Rattle.map_cells.specs.FollowLaws.{starts_same}
 use Rattle.map_cells.specs.Passing.{IsJoined}
 use Rattle.map_cells.specs.PassFields.{FieldsAgree}
-use Rattle.map_cells.specs.Steps.{StepFrame}
+use Rattle.map_cells.specs.Steps.{StepFrame, Rises, CurrentSeen}
 use Rattle.map_cells.proofs.Allowed.{about}
 
 -- the pass's seat, with the view v, is of the words that the cells share, whose rule was told the key
@@ -48,21 +48,47 @@ value_there v inner g i n same is = subst (λ (l : Layout). n ≡ value_place l 
 pub cell_there : (v outer : Layout) (g i : ℕ) → v ≡ outer → IsCell outer g i → IsCell v g i
 cell_there v outer g i same cell = subst (λ (l : Layout). IsCell l g i) (sym same) cell
 
+pub finish_there : (v inner : Layout) (g b n : ℕ) → v ≡ inner → n ≡ finish_place inner g b + offset inner → n ≡ finish_place v g b + offset v
+finish_there v inner g b n same is = subst (λ (l : Layout). n ≡ finish_place l g b + offset l) (sym same) is
+
+pub block_there : (v outer : Layout) (g b : ℕ) → v ≡ outer → IsBlock outer g b → IsBlock v g b
+block_there v outer g b same block = subst (λ (l : Layout). IsBlock l g b) (sym same) block
+
+pub within_there : (v outer : Layout) (g : ℕ) → v ≡ outer → Within outer g → Within v g
+within_there v outer g same within = subst (λ (l : Layout). Within l g) (sym same) within
+
 -- a step leaves the pass with its table
 pub of_steps : (c : CellsView) (p q : PassView) → IsOf c p → q.table ≡ p.table → StepFrame p.knows q.knows → IsOf c q
 of_steps c p q of table s = record { table = table ∙ of.table; layout = s.layout ∙ of.layout; tag = s.tag ∙ of.tag }
 
+pub of_rises : (c : CellsView) (p q : PassView) → IsOf c p → q.table ≡ p.table → Rises p.knows q.knows → IsOf c q
+of_rises c p q of table s = record { table = table ∙ of.table; layout = s.layout ∙ of.layout; tag = s.tag ∙ of.tag }
+
 -- the fields of a pass, after a step that counts nothing
-pub fields_after : (fits : List ℕ → ℕ → ℕ → Type 0) (me me' : Me (Unit {0}) View) (i left own most : ℕ) → FieldsAgree fits me i left own most → me'.1 ≡ me.1 → StepFrame me.0 me'.0
-    → me'.0.counted ≡ me.0.counted → me'.0.count_seen ≡ me.0.count_seen → PassFacts fits me'.0 → FieldsAgree fits me' i left own most
-fields_after fits me me' i left own most agree slots s counted count facts =
+pub fields_after : (fits : List ℕ → ℕ → ℕ → Type 0) (me me' : Me (Unit {0}) View) (i left own most now : ℕ) → FieldsAgree fits me i left own most now → me'.1 ≡ me.1 → StepFrame me.0 me'.0
+    → me'.0.counted ≡ me.0.counted → me'.0.count_seen ≡ me.0.count_seen → PassFacts fits me'.0 → FieldsAgree fits me' i left own most now
+fields_after fits me me' i left own most now agree slots s counted count facts =
     record {
       slots = slots ∙ agree.slots;
       number = agree.number ∙ sym s.number;
       spare = agree.spare ∙ sym s.spare;
       entries = agree.entries ∙ sym counted;
       count_seen = agree.count_seen ∙ sym count;
+      generation = agree.generation ∙ sym s.generation;
       facts = facts;
+    }
+
+-- and after one that saw a generation current
+pub fields_risen : (fits : List ℕ → ℕ → ℕ → Type 0) (me me' : Me (Unit {0}) View) (i left own most now n : ℕ) → FieldsAgree fits me i left own most now → me'.1 ≡ me.1 → CurrentSeen fits n me.0 me'.0 → FieldsAgree fits me' i left own most n
+fields_risen fits me me' i left own most now n agree slots s =
+    record {
+      slots = slots ∙ agree.slots;
+      number = agree.number ∙ sym s.rises.number;
+      spare = agree.spare ∙ sym s.rises.spare;
+      entries = agree.entries ∙ sym s.rises.counted;
+      count_seen = agree.count_seen ∙ sym s.same_count;
+      generation = sym s.generation;
+      facts = s.facts;
     }
 
 -- what stays at a join and at a split

@@ -3,13 +3,13 @@ use Rattle.std.specs.Prelude.{◌≡◌, ◌≢◌, ◌⊎◌, ℕ, ◌+◌, ◌
 use Rattle.map_core.specs.declared.entry.Entry.{Entry}
 use Rattle.map_core.specs.declared.view.View.{View}
 use Rattle.map_core.specs.History.{value_in, is_in, StartsWith, StartsWithOwn}
-use Rattle.map_core.specs.Places.{key_place, value_place}
+use Rattle.map_core.specs.Places.{key_place, value_place, finish_place}
 use Rattle.map_core.specs.Machine.{greatest, IsWord, Reaches, IsClosed, IsPublished, IsSettled}
-use Rattle.map_core.specs.Events.{claims, publishes, counts, entry}
+use Rattle.map_core.specs.Events.{claims, publishes, seals_key, seals_value, counts, takes, finishes, switches, entry}
 use Rattle.map_core.specs.Calls.{own}
 use Rattle.map_core.specs.Passes.{look, cell, drop_claim, PassFacts}
 use Rattle.map_core.specs.Knowing.{all_but_first}
-use Rattle.map_cells.specs.Whole.{MakesStep}
+use Rattle.map_cells.specs.Whole.{MakesStep, MakesLoad}
 
 -- the key is seen closed in each generation from a current one up to below g
 pub record ClosedTo (v : View) (g k : ℕ) : Type 0 where
@@ -44,7 +44,47 @@ pub record Looks (v w : View) : Type 0 where
   pub mine : StartsWithOwn v.numbers v.front w.front
   pub own : own w ≡ own v
 
+-- what every call keeps that adds no entry, also where it saw a later generation current
+pub record Rises (v w : View) : Type 0 where
+  pub layout : w.layout ≡ v.layout
+  pub tag : w.tag ≡ v.tag
+  pub number : w.number ≡ v.number
+  pub numbers : w.numbers ≡ v.numbers
+  pub spare : w.spare ≡ v.spare
+  pub generation : v.generation ≤ w.generation
+  pub currents : (c : ℕ) → is_in c v.currents ≡ true → is_in c w.currents ≡ true
+  pub front : StartsWith v.front w.front
+  pub seen : (q : ℕ) → 0 < look v.known q → look w.known q ≡ look v.known q
+  pub count_seen : v.count_seen ≤ w.count_seen
+  pub mine : StartsWithOwn v.numbers v.front w.front
+  pub own : own w ≡ own v
+  pub claim : v.claim ≡ None → w.claim ≡ None
+  pub uncounted : w.uncounted ≡ v.uncounted
+  pub counted : w.counted ≡ v.counted
+
 module _ (fits : List ℕ → ℕ → ℕ → Type 0) where
+  -- a step that changes no claim and adds and counts no entry
+  pub record LeavesClaim (v w : View) : Type 0 where
+    pub looks : Looks v w
+    pub facts : PassFacts fits w
+    pub claim : w.claim ≡ v.claim
+    pub uncounted : w.uncounted ≡ v.uncounted
+    pub counted : w.counted ≡ v.counted
+    pub same_count : w.count_seen ≡ v.count_seen
+
+  -- a load of word 0, which found generation n current. What this tells is in the pass's facts
+  pub record CurrentSeen (n : ℕ) (v w : View) : Type 0 where
+    pub rises : Rises v w
+    pub facts : PassFacts fits w
+    pub claim : w.claim ≡ v.claim
+    pub same_count : w.count_seen ≡ v.count_seen
+    pub generation : w.generation ≡ n
+
+  -- a load of the finish word of a block
+  pub record BlockSeen (g b n : ℕ) (v w : View) : Type 0 where
+    pub leaves : LeavesClaim v w
+    pub word : look w.known (finish_place v.layout g b) ≡ n
+
   -- a load of the key word of a cell
   pub record KeySeen (g i n : ℕ) (v w : View) : Type 0 where
     pub looks : Looks v w
@@ -147,6 +187,43 @@ module _ (fits : List ℕ → ℕ → ℕ → Type 0) where
     -- where both hold of the pair, its value word is found set
     pub both : (h : ℕ) → IsPublished v.layout (look v.known) h k x
         → fits v.tag k x → ClosedTo v g k → n ≢ 0
+
+  -- an exchange of an empty key word for the greatest number
+  pub record KeySealed (g i n : ℕ) (v w : View) : Type 0 where
+    pub leaves : LeavesClaim v w
+    pub won : n ≡ 0 → look w.known (key_place v.layout g i) ≡ greatest
+    pub event : n ≡ 0 → MakesStep fits (seals_key g i) v w
+    pub lost : n ≢ 0 → look w.known (key_place v.layout g i) ≡ n
+
+  -- an exchange of an unset value word for the greatest number. An open claim of the cell ends
+  pub record ValueSealed (g i n : ℕ) (v w : View) : Type 0 where
+    pub looks : Looks v w
+    pub facts : PassFacts fits w
+    pub claim : w.claim ≡ drop_claim v.claim g i
+    pub uncounted : w.uncounted ≡ v.uncounted
+    pub counted : w.counted ≡ v.counted
+    pub same_count : w.count_seen ≡ v.count_seen
+    pub won : n ≡ 0 → look w.known (value_place v.layout g i) ≡ greatest
+    pub event : n ≡ 0 → MakesStep fits (seals_value g i) v w
+    pub lost : n ≢ 0 → look w.known (value_place v.layout g i) ≡ n
+
+  -- an addition of 1 to a generation's take word
+  pub record BlockTaken (g : ℕ) (v w : View) : Type 0 where
+    pub leaves : LeavesClaim v w
+    pub event : MakesStep fits (takes g) v w
+
+  -- an exchange of a finish word from 0 to 1, which is 1 afterwards. One that was lost is a load
+  pub record BlockFinished (g b : ℕ) (v w : View) : Type 0 where
+    pub leaves : LeavesClaim v w
+    pub word : look w.known (finish_place v.layout g b) ≡ 1
+    pub event : MakesStep fits (finishes g b) v w ⊎ MakesLoad fits v w
+
+  -- an exchange of word 0 from g to the next generation. The generation n is current afterwards, and g is left. One
+  -- that was lost is a load
+  pub record Switched (g n : ℕ) (v w : View) : Type 0 where
+    pub seen : CurrentSeen n v w
+    pub left : n ≢ g
+    pub event : MakesStep fits switches v w ⊎ MakesLoad fits v w
 
   -- an addition of 1 to the count, which is n afterwards
   pub record CountRaised (n : ℕ) (v w : View) : Type 0 where

@@ -33,6 +33,14 @@ module _ (fits : List ℕ → ℕ → ℕ → Type 0) where
     pub history : w.front ≡ after.history
     pub known : Keeps (look w.known) after.cells
 
+  -- a step of a pass was a load: the words stayed as they are after a lawful list of events
+  pub record MakesLoad (v w : View) : Type 0 where
+    pub events : List Event
+    pub at : State
+    pub lawful : Lawful v.layout (fits v.tag) events at
+    pub history : w.front ≡ at.history
+    pub known : Keeps (look w.known) at.cells
+
   -- the table is taken apart, and the count is n
   pub record ClosesTable (c : CellsView) (v : View) (n : ℕ) : Type 0 where
     pub words : List ℕ

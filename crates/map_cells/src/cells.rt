@@ -64,6 +64,7 @@ impl<F: Facts> Cells<F> {
             spare: passes - 1,
             entries: 0,
             count_seen: 0,
+            generation: 0,
             padding: [0; 8],
             facts: PhantomData,
         };
@@ -95,6 +96,7 @@ impl<F: Facts> Cells<F> {
             spare: 0,
             entries: 0,
             count_seen: pass.count_seen,
+            generation: pass.generation,
             padding: [0; 8],
             facts: PhantomData,
         }
@@ -117,6 +119,7 @@ impl<F: Facts> Cells<F> {
             spare: _,
             entries,
             count_seen: _,
+            generation: _,
             padding: _,
             facts: _,
         } = from;
@@ -140,6 +143,7 @@ impl<F: Facts> Cells<F> {
             spare: _,
             entries: _,
             count_seen: _,
+            generation: _,
             padding: _,
             facts: _,
         } = pass;

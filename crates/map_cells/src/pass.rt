@@ -10,8 +10,8 @@ use std::marker::{Model, PhantomData};
 
 /// What one caller knows of a table. It belongs to one caller at a time, and may be sent to another thread.
 ///
-/// `entries` is how many entries it has counted, and `count_seen` the greatest count that it has seen. The padding keeps
-/// passes that lie side by side, each written by its own thread, on cache lines of their own.
+/// `entries` is how many entries it has counted, `count_seen` the greatest count that it has seen, and `generation` the
+/// last generation that it has seen current. The padding keeps passes that lie side by side, each written by its own thread, on cache lines of their own.
 #[derive(Drop)]
 pub struct Pass<F: Facts> {
     pub(crate) seat: Seat<(), View>,
@@ -19,6 +19,7 @@ pub struct Pass<F: Facts> {
     pub(crate) spare: u32,
     pub(crate) entries: u64,
     pub(crate) count_seen: u64,
+    pub(crate) generation: u32,
     pub(crate) padding: [u64; 8],
     pub(crate) facts: PhantomData<F>,
 }
@@ -31,7 +32,8 @@ impl<F: Facts> Model for Pass<F> {
 
     ghost view = { λ p. record { table = p.seat.table_id; knows = p.seat.me.0 } };
 
-    ghost invariant = { λ p. FieldsAgree F.fits p.seat.me p.number p.spare p.entries p.count_seen };
+    ghost invariant = { λ p. FieldsAgree F.fits p.seat.me p.number p.spare p.entries p.count_seen
+        p.generation };
 }
 
 impl<F: Facts> Pass<F> {
@@ -62,6 +64,13 @@ impl<F: Facts> Pass<F> {
         ensures { result ≡ self.now.knows.count_seen }
     {
         self.count_seen
+    }
+
+    /// The last generation that the pass has seen current.
+    pub fn generation(&self) -> u32
+        ensures { result ≡ self.now.knows.generation }
+    {
+        self.generation
     }
 
     /// What is true of a pass by itself. It does nothing: a proof learns it by this call.

@@ -17,6 +17,28 @@ impl<F: Facts> TableRule<(), View, About> for TheRule<F> {
     ghost first = { first_of };
 }
 
+/// A load of the word that says which generation is current.
+pub struct CurrentLoad<F> {
+    facts: PhantomData<F>,
+}
+
+impl<F: Facts> Play<(), View> for CurrentLoad<F> {
+    ghost use Rattle.map_cells.specs.Rule.{CurrentLooked};
+
+    ghost then = { CurrentLooked F.fits };
+}
+
+/// A load of a finish word.
+pub struct BlockLoad<F> {
+    facts: PhantomData<F>,
+}
+
+impl<F: Facts> Play<(), View> for BlockLoad<F> {
+    ghost use Rattle.map_cells.specs.Rule.{BlockLooked};
+
+    ghost then = { BlockLooked F.fits };
+}
+
 /// A load of a key word.
 pub struct KeyLoad<F> {
     facts: PhantomData<F>,
@@ -70,6 +92,61 @@ impl<F: Facts> Play<(), View> for Publish<F> {
     ghost use Rattle.map_cells.specs.Rule.{Published};
 
     ghost then = { Published F.fits };
+}
+
+/// An exchange of a key word from empty to sealed.
+pub struct SealKey<F> {
+    facts: PhantomData<F>,
+}
+
+impl<F: Facts> Play<(), View> for SealKey<F> {
+    ghost use Rattle.map_cells.specs.Rule.{KeyShut};
+
+    ghost then = { KeyShut F.fits };
+}
+
+/// An exchange of a value word from unset to closed.
+pub struct SealValue<F> {
+    facts: PhantomData<F>,
+}
+
+impl<F: Facts> Play<(), View> for SealValue<F> {
+    ghost use Rattle.map_cells.specs.Rule.{ValueShut};
+
+    ghost then = { ValueShut F.fits };
+}
+
+/// An addition of 1 to a take word.
+pub struct TakeBlock<F> {
+    facts: PhantomData<F>,
+}
+
+impl<F: Facts> Play<(), View> for TakeBlock<F> {
+    ghost use Rattle.map_cells.specs.Rule.{Took};
+
+    ghost then = { Took F.fits };
+}
+
+/// An exchange of a finish word from 0 to 1.
+pub struct FinishBlock<F> {
+    facts: PhantomData<F>,
+}
+
+impl<F: Facts> Play<(), View> for FinishBlock<F> {
+    ghost use Rattle.map_cells.specs.Rule.{Ended};
+
+    ghost then = { Ended F.fits };
+}
+
+/// An exchange of the word that says which generation is current, to the next generation.
+pub struct Switch<F> {
+    facts: PhantomData<F>,
+}
+
+impl<F: Facts> Play<(), View> for Switch<F> {
+    ghost use Rattle.map_cells.specs.Rule.{Left};
+
+    ghost then = { Left F.fits };
 }
 
 /// An addition of 1 to the count.

@@ -1,5 +1,5 @@
 -- What a pass knows by itself after a step, after a split and before a join.
-use Rattle.std.proofs.Common.{◌≡◌, ◌≢◌, ◌⊎◌, ℕ, zero, suc, ◌+◌, ◌-◌, ◌<◌, ◌≤◌, true, List, [], ◌∷◌, ◌++◌, length, set, Some, None, refl, sym, ap, subst, ◌∙◌, inl, inr, ⊎_elim, arith, append-nil, length-append, length-set, true≢false}
+use Rattle.std.proofs.Common.{◌≡◌, ◌≢◌, ◌⊎◌, ℕ, zero, suc, ◌+◌, ◌-◌, ◌*◌, ◌<◌, ◌≤◌, true, List, [], ◌∷◌, ◌++◌, length, set, Some, None, refl, sym, ap, subst, ◌∙◌, inl, inr, ⊎_elim, arith, append-nil, length-append, length-set, true≢false}
 use mathlib.Core.Logic.{dite}
 use mathlib.Core.Option.{some, some-injective, some-ne-none}
 use native.Mathlib.Decide.{ℕ_discrete}
@@ -10,7 +10,7 @@ use Rattle.map_core.specs.declared.layout.Layout.{Layout}
 use Rattle.map_core.specs.declared.view.View.{View}
 use Rattle.map_core.specs.Sizes.{cells_of}
 use Rattle.map_core.specs.History.{value_in, IsLegalHistory, is_in, by_any}
-use Rattle.map_core.specs.Places.{word_count, key_place, value_place, Within, IsCell}
+use Rattle.map_core.specs.Places.{lowest, word_count, key_place, value_place, Within, IsCell}
 use Rattle.map_core.specs.Machine.{IsWord, Keeps, State, Passed, IsClosed, Sound}
 use Rattle.map_core.specs.Passes.{look, all_numbers, placed, total, HasFilled, WhoBelow, Distinct, PassAt, HasFirst, SeesAll, FrontsOfOneHistory, CountIsHonest, HasClaim, OpenClaims, Together, PassFacts}
 use Rattle.map_core.specs.Knowing.{halved, newcomer}
@@ -19,6 +19,19 @@ use Rattle.map_core.proofs.AbsentLemmas.{absent_whole}
 use Rattle.map_core.proofs.HistoryLemmas.{by_miss, by_append}
 use Rattle.map_core.proofs.PassLemmas.{there_below, in_first, who_more, total_set, Apart, apart_back}
 use Rattle.map_core.proofs.CountLemmas.{in_hit, in_miss, full, few_below, all_below, by_all, count_le}
+
+-- the whole history fills three quarters of the generation below the current one
+pub filled_current : (l : Layout) (fits : ℕ → ℕ → Type 0) (s : State) → Sound l fits s → s.count ≤ length s.history → HasFilled l s.current s.history
+filled_current l fits s so few =
+    dite (ℕ_discrete s.current (lowest l))
+    (λ e. inl e)
+    (λ ne.
+    let low = so.moved.within.0 in
+    let n : ℕ = cells_of (s.current - 1) in
+    let m : ℕ = length s.history in
+    let full : 3 * n ≤ 4 * s.count = so.filled (omega arith) in
+    let few' : s.count ≤ m = few in
+    let goal : 3 * n ≤ 4 * m = omega arith in inr goal)
 
 -- what is true of a pass by itself, where its front is the whole history
 pub whole_facts : (l : Layout) (fits : List ℕ → ℕ → ℕ → Type 0) (mark : List ℕ) (s : State) (views : List View) (i : ℕ) (v : View)

@@ -5,11 +5,12 @@ pub mod HistoryLemmas
 pub mod EventLemmas
 pub mod SettleLemmas
 pub mod SoundLemmas
+pub mod MovedLemmas
 pub mod AbsentLemmas
 pub mod CallLemmas
 pub mod PassLemmas
-pub mod TurnLemmas
 pub mod CountLemmas
+pub mod TurnLemmas
 pub mod FactLemmas
 pub mod JoinLemmas
 pub mod StartLemmas

@@ -7,15 +7,16 @@ use Rattle.map_core.specs.declared.entry.Entry.{Entry}
 use Rattle.map_core.specs.declared.layout.Layout.{Layout}
 use Rattle.map_core.specs.declared.view.View.{View}
 use Rattle.map_core.specs.History.{is_in, by_any, StartsWithOwn}
-use Rattle.map_core.specs.Places.{lowest, key_place, value_place, IsCell}
-use Rattle.map_core.specs.Machine.{IsWord, Keeps, State, IsUnset}
+use Rattle.map_core.specs.Places.{lowest, key_place, value_place, finish_place, Within, IsCell}
+use Rattle.map_core.specs.Machine.{greatest, IsWord, Keeps, State, IsUnset}
 use Rattle.map_core.specs.Events.{entry, WritesWord}
 use Rattle.map_core.specs.Passes.{look, cell, drop_claim, all_numbers, placed, HasFilled, AllBy, PassAt, Turn}
-use Rattle.map_core.specs.Knowing.{all_but_first, sees, reads, grabs, places, counts_seen, tallies, settles}
-use Rattle.map_core.proofs.PlaceLemmas.{key_key, value_value, key_value, value_key}
+use Rattle.map_core.specs.Knowing.{all_but_first, sees, reads, grabs, places, rises, passes_by, counts_seen, tallies, settles}
+use Rattle.map_core.proofs.PlaceLemmas.{key_key, value_value, key_value, value_key, key_finish, value_finish}
 use Rattle.map_core.proofs.WordLemmas.{keeps_at}
 use Rattle.map_core.proofs.HistoryLemmas.{by_hit, by_append}
 use Rattle.map_core.proofs.PassLemmas.{keeps_trans, own_whole, own_grows, own_length, filled_longer, in_first}
+use Rattle.map_core.proofs.CountLemmas.{in_hit, in_miss}
 
 pub look_hit : (known : List (ℕ × ℕ)) (q n x : ℕ) → q ≡ x → look ((q, n) ∷ known) x ≡ n
 look_hit known q n x is = subst (λ (b : Bool). (if b then n else look known x) ≡ n) (sym (eq-eqb q x is)) refl
@@ -288,6 +289,64 @@ module _ (l : Layout) (mark : List ℕ) (s : State) (i : ℕ) (v : View) (live :
             (λ (c : v.claim ≢ Some (cell h o)). inr ((subst IsWord key unset.0, sym value ∙ unset.1), c))
             (claim_cases v.claim h o);
       }
+
+  -- an empty key word was sealed
+  pub seal_turn : (t : State) (g j : ℕ) → IsCell l g j → WritesWord (key_place l g j) 0 greatest s t → t.history ≡ s.history → Turn l mark s t i v (sees v t.history (key_place l g j) greatest)
+  seal_turn t g j a wr log =
+      let w : View = sees v t.history (key_place l g j) greatest in
+      write_turn t (key_place l g j) greatest wr log w refl refl (refl, refl, refl, refl, refl, refl, refl, refl) (refl, refl) (refl, refl, refl)
+      (λ h o b unset. dite (ℕ_discrete (key_place l h o) (key_place l g j))
+      (λ e. let is : t.cells (key_place l h o) ≡ greatest = ap t.cells e ∙ wr.is in let lt = unset.0.1 in absurd (omega arith))
+      (λ ne.
+      let key = wr.only (key_place l h o) ne in
+      let value = wr.only (value_place l h o) (value_key l h o g j) in
+      ⊎_elim
+      (λ (c : w.claim ≡ Some (cell h o)). inl c)
+      (λ (c : v.claim ≢ Some (cell h o)). inr ((subst IsWord key unset.0, sym value ∙ unset.1), c))
+      (same_claim w refl h o)))
+
+  -- a block was finished
+  pub finish_turn : (t : State) (g b : ℕ) → WritesWord (finish_place l g b) 0 1 s t → t.history ≡ s.history → Turn l mark s t i v (sees v t.history (finish_place l g b) 1)
+  finish_turn t g b wr log =
+      let w : View = sees v t.history (finish_place l g b) 1 in
+      write_turn t (finish_place l g b) 1 wr log w refl refl (refl, refl, refl, refl, refl, refl, refl, refl) (refl, refl) (refl, refl, refl)
+      (λ h o a unset.
+      let key = wr.only (key_place l h o) (key_finish l h o g b a) in
+      let value = wr.only (value_place l h o) (value_finish l h o g b a) in
+      ⊎_elim
+      (λ (c : w.claim ≡ Some (cell h o)). inl c)
+      (λ (c : v.claim ≢ Some (cell h o)). inr ((subst IsWord key unset.0, sym value ∙ unset.1), c))
+      (same_claim w refl h o))
+
+  -- no word of a cell changes
+  module _ (t : State) (cells : (q : ℕ) → t.cells q ≡ s.cells q) (log : t.history ≡ s.history) (current : s.current ≤ t.current) (count : t.count ≡ s.count) where
+    same_cells : Keeps s.cells t.cells
+    same_cells q h = cells q
+
+    knows_still : Keeps (look v.known) t.cells
+    knows_still = keeps_trans (look v.known) s.cells t.cells p.knows same_cells
+
+    claims_still : (w : View) → w.claim ≡ v.claim → ClaimsStay t w
+    claims_still w same g j a unset = ⊎_elim
+        (λ (e : w.claim ≡ Some (cell g j)). inl e)
+        (λ (ne : v.claim ≢ Some (cell g j)). inr ((subst IsWord (cells (key_place l g j)) unset.0, sym (cells (value_place l g j)) ∙ unset.1), ne))
+        (same_claim w same g j)
+
+    -- a step that tells no more than the history
+    pub passes_turn : Turn l mark s t i v (passes_by v t.history)
+    passes_turn = sights_turn t same_cells log current count (passes_by v t.history) knows_still refl (refl, refl, refl, refl, refl, refl, refl, refl) (refl, refl) (refl, refl, refl) (claims_still (passes_by v t.history) refl)
+
+    -- the current generation was seen
+    pub rises_turn : Within l t.current → HasFilled l t.current t.history → Turn l mark s t i v (rises v t.history t.current)
+    rises_turn within filled =
+        let w : View = rises v t.history t.current in
+        let seen = p.count_seen in
+        moves_turn t same_cells log current count w knows_still refl (refl, refl, refl, refl, refl, refl, refl, refl) (refl, refl) (omega arith)
+        (in_hit t.current t.current v.currents refl)
+        (λ c h. dite (ℕ_discrete c t.current)
+        (λ e. let lo = within.0 in (omega arith, omega arith))
+        (λ ne. let b = p.currents c (sym (in_miss c t.current v.currents ne) ∙ h) in let hi = b.1 in (b.0, omega arith)))
+        filled (claims_still w refl)
 
   -- one entry is counted
   pub tallies_turn : (t : State) → ((q : ℕ) → t.cells q ≡ s.cells q) → t.history ≡ s.history → t.count ≡ s.count + 1 → t.current ≡ s.current → 0 < length v.uncounted → Turn l mark s t i v (tallies v t.history t.count)

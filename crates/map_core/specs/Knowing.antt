@@ -54,6 +54,14 @@ places l v log g i x e = record v {
   uncounted = v.uncounted ++ e ∷ [];
 }
 
+-- generation g was current
+abbrev pub rises : View → List Entry → ℕ → View
+rises v log g = record v { front = log; generation = g; currents = g ∷ v.currents }
+
+-- a step was made that tells no more than the history
+abbrev pub passes_by : View → List Entry → View
+passes_by v log = record v { front = log }
+
 -- the count was n
 abbrev pub counts_seen : View → List Entry → ℕ → View
 counts_seen v log n = record v { front = log; count_seen = n }

@@ -6,7 +6,7 @@ use Rattle.map_core.specs.declared.entry.Entry.{Entry}
 use Rattle.map_core.specs.declared.layout.Layout.{Layout}
 use Rattle.map_core.specs.Sizes.{cells_of}
 use Rattle.map_core.specs.History.{value_in, IsLegalHistory}
-use Rattle.map_core.specs.Places.{lowest, key_place, value_place, finish_place, current_in, count_in, cells_in, spot, Within, IsCell, IsBlock}
+use Rattle.map_core.specs.Places.{lowest, key_place, value_place, finish_place, current_in, count_in, takes_in, cells_in, spot, Within, IsCell, IsBlock}
 
 abbrev pub greatest : ℕ
 greatest = 18446744073709551615
@@ -131,12 +131,12 @@ pub record Sound (l : Layout) (fits : ℕ → ℕ → Type 0) (s : State) : Type
   pub history : OneHistory l s.cells fits s.history
   pub filled : lowest l < s.current → 3 * cells_of (s.current - 1) ≤ 4 * s.count
 
--- a table with these words. It has no take words yet
+-- a table with these words
 abbrev pub state_of : Layout → List ℕ → List Entry → State
 state_of l words log = record {
-  current = current_in l words;
+  current = current_in words;
   count = count_in words;
-  takes = λ q. 0;
+  takes = takes_in l words;
   cells = cells_in l words;
   history = log;
 }

@@ -1,42 +1,51 @@
 -- Where the words of a table lie, and how a key walks through a generation.
 -- A place is a number: the words of the cells lie behind the first words of the table, each at its place.
-use Rattle.std.specs.Prelude.{ℕ, ◌+◌, ◌-◌, ◌*◌, ◌/◌, ◌%◌, ◌^◌, ◌<◌, ◌≤◌, List, slice_index}
+use Rattle.std.specs.Prelude.{ℕ, ◌+◌, ◌-◌, ◌*◌, ◌/◌, ◌%◌, ◌^◌, ◌<◌, ◌≤◌, List, slice_index, if◌then◌else◌, nat_lt}
 use Rattle.map_core.specs.declared.layout.Layout.{Layout}
-use Rattle.map_core.specs.declared.places.TheConstants.{CURRENT_WORD, COUNT_WORD, FIRST_CELL_WORD, HASH_MULTIPLIER}
+use Rattle.map_core.specs.declared.places.TheConstants.{CURRENT_WORD, COUNT_WORD, FIRST_TAKE_WORD, FIRST_CELL_WORD, HASH_MULTIPLIER}
 use Rattle.map_core.specs.Sizes.{cells_of}
 
--- the lowest generation that is laid out: for now the last
+-- the lowest generation
 unfoldable pub lowest : Layout → ℕ
-lowest l = l.last
+lowest l = 0
 
 -- how many cells lie below generation g
-unfoldable pub base : Layout → ℕ → ℕ
-base l g = 64 * (2 ^ g - 2 ^ lowest l)
+unfoldable pub base : ℕ → ℕ
+base g = 64 * (2 ^ g - 1)
 
 unfoldable pub key_place : Layout → ℕ → ℕ → ℕ
-key_place l g i = 2 * (base l g + i)
+key_place l g i = 2 * (base g + i)
 
 unfoldable pub value_place : Layout → ℕ → ℕ → ℕ
-value_place l g i = 2 * (base l g + i) + 1
+value_place l g i = 2 * (base g + i) + 1
 
 -- the finish words of the blocks lie behind the cells
 unfoldable pub finish_place : Layout → ℕ → ℕ → ℕ
-finish_place l g b = 2 * (base l l.last + cells_of l.last) + (base l g / 64 + b)
+finish_place l g b = 2 * (base l.last + cells_of l.last) + (base g / 64 + b)
 
--- the words of the cells lie behind the current generation and the count, on cache lines of their own
+-- the words of the cells lie behind the current generation, the count and the take words, on cache lines of their own
 unfoldable pub offset : Layout → ℕ
 offset l = FIRST_CELL_WORD
 
+-- two words for each cell, and one for each block of 64
 unfoldable pub word_count : Layout → ℕ
-word_count l = 2 * (base l l.last + cells_of l.last) + offset l
+word_count l = 2 * (base l.last + cells_of l.last) + (base l.last + cells_of l.last) / 64 + offset l
 
--- the current generation, counted from the lowest one
-abbrev pub current_in : Layout → List ℕ → ℕ
-current_in l words = lowest l + slice_index words CURRENT_WORD
+-- the take word of a generation
+unfoldable pub take_word : ℕ → ℕ
+take_word g = FIRST_TAKE_WORD + g
+
+-- the current generation
+abbrev pub current_in : List ℕ → ℕ
+current_in words = slice_index words CURRENT_WORD
 
 -- the count of entries
 abbrev pub count_in : List ℕ → ℕ
 count_in words = slice_index words COUNT_WORD
+
+-- the take words, by their generations
+abbrev pub takes_in : Layout → List ℕ → ℕ → ℕ
+takes_in l words g = if nat_lt l.last g then 0 else slice_index words (take_word g)
 
 -- the words of the cells, by their places
 abbrev pub cells_in : Layout → List ℕ → ℕ → ℕ

@@ -17,5 +17,5 @@ pub use cell::Cell;
 pub use entry::Entry;
 pub use laws::{Fitting, calls_in_order, first_value_is_kept, lawful_events};
 pub use layout::{Layout, MOST_ENTRIES, MOST_PASSES};
-pub use places::{COUNT_WORD, CURRENT_WORD, FIRST_CELL_WORD, HASH_MULTIPLIER};
+pub use places::{COUNT_WORD, CURRENT_WORD, FIRST_CELL_WORD, FIRST_TAKE_WORD, HASH_MULTIPLIER};
 pub use view::View;

@@ -1,5 +1,5 @@
 //! The table and its calls.
-ghost use Rattle.std.specs.Prelude.{◌≡◌, ◌≢◌, ◌↔◌, ◌<◌, ◌≤◌, ℕ, Some, IfOk, IsTrue};
+ghost use Rattle.std.specs.Prelude.{◌≡◌, ◌≢◌, ◌↔◌, ◌<◌, ◌≤◌, ℕ, length, Some, IfOk, IsTrue};
 ghost use Rattle.map_core.specs.declared.layout.TheConstants.{MOST_ENTRIES, MOST_PASSES};
 ghost use Rattle.map_core.specs.Sizes.{cells_of};
 ghost use Rattle.map_core.specs.History.{value_in};
@@ -8,19 +8,21 @@ ghost use Rattle.map_core.specs.Calls.{own, FindsAt};
 ghost use Rattle.map_core.specs.Passes.{AtRest, PassFacts};
 ghost use Rattle.map_cells.specs.Seen.{IsOf, Continues, Follows};
 ghost use Rattle.map_cells.specs.Passing.{IsSplit, IsJoined};
+ghost use Rattle.map_cells.specs.Steps.{Rises};
 ghost use Rattle.map_cells.specs.Walks.{Walks};
-ghost use Rattle.share_map.specs.Answers.{IsNew, Inserts, PutTogether};
+ghost use Rattle.share_map.specs.Answers.{IsNew, HasRoom, Inserts, PutTogether};
 ghost use Rattle.share_map.specs.declared.answers.Kept.TheVariants.{Found};
 
 use crate::answers::{Full, Kept, Shape};
-use map_cells::{Cells, Facts, Layout, Pass, Put};
+use block_moves::{Helped, help};
+use map_cells::{Cells, Facts, Layout, Pass, Put, SeekEnd};
 use std::alloc::{AllocError, Global};
 use std::marker::Model;
 
 /// A map from keys to values that threads share without locks.
 #[derive(Drop)]
 pub struct Table<F: Facts> {
-    cells: Cells<F>,
+    pub(crate) cells: Cells<F>,
 }
 
 impl<F: Facts> Model for Table<F> {
@@ -49,7 +51,7 @@ impl<F: Facts> Table<F> {
         Ok((Table { cells }, pass))
     }
 
-    /// The value of a key, or that it has none.
+    /// The value of a key, or that it has none. It looks in the pass's own generation first.
     pub fn find(&self, pass: &mut Pass<F>, key: u64) -> Option<u64>
         requires of { IsOf self.now pass.old }
         requires rest { AtRest pass.old.knows }
@@ -63,11 +65,18 @@ impl<F: Facts> Table<F> {
         ensures kept { (v : ℕ) → value_in pass.old.knows.front key ≡ Some v → result ≡ Some v }
     {
         pass.recall();
-        let generation = self.cells.layout().last;
+        // where no move goes on this settles it, with no load but those of the key's cells
+        match self.cells.seek_in(pass, pass.generation(), key) {
+            SeekEnd::Value(value) => return Some(value),
+            SeekEnd::Missing => return None,
+            SeekEnd::Closed => {}
+        }
+        let generation = self.cells.current(pass);
         self.cells.seek_from(pass, generation, key)
     }
 
-    /// Puts a pair in, unless the key has a value.
+    /// Puts a pair in, unless the key has a value. Where it was placed and a move of the table's cells to a larger
+    /// generation is due, the call helps with it.
     pub fn insert(&self, pass: &mut Pass<F>, key: u64, value: u64) -> Result<Kept, Full>
         requires of { IsOf self.now pass.old }
         requires rest { AtRest pass.old.knows }
@@ -84,22 +93,70 @@ impl<F: Facts> Table<F> {
         ensures kept { (v : ℕ) → value_in pass.old.knows.front key ≡ Some v
             → result ≡ Ok (Found v) }
     {
-        let layout = self.cells.layout();
-        let last = layout.last;
-        let capacity = layout.capacity;
-        if self.last_count(pass) >= capacity {
-            return match self.cells.seek_from(pass, last, key) {
+        let capacity = self.cells.layout().capacity;
+        let seen = self.last_count(pass);
+        let generation = self.cells.current(pass);
+        if seen >= capacity {
+            return match self.cells.seek_from(pass, generation, key) {
                 Some(found) => Ok(Kept::Found(found)),
                 None => Err(Full),
             };
         }
-        match self.cells.put_from(pass, last, key, value) {
+        match self.cells.put_from(pass, generation, key, value) {
             Put::Placed => {
-                self.cells.count(pass);
+                let count = self.cells.count(pass);
+                self.relieve_from(pass, generation, count);
                 Ok(Kept::Placed)
             }
             Put::Found(found) => Ok(Kept::Found(found)),
             Put::Exhausted => Err(Full),
+        }
+    }
+
+    // Helps while a move is due, where the pass has just counted an entry in this generation. Nearly always none is, and
+    // the count alone says so.
+    fn relieve_from(&self, pass: &mut Pass<F>, generation: u32, count: u64)
+        requires of { IsOf self.now pass.old }
+        requires rest { AtRest pass.old.knows }
+        requires here { pass.old.knows.generation ≡ generation }
+        requires few { length (own pass.old.knows) ≤ count }
+        requires most { count ≤ length pass.old.knows.front }
+        ensures of { IsOf self.now pass.new }
+        ensures table { pass.new.table ≡ pass.old.table }
+        ensures rest { AtRest pass.new.knows }
+        ensures rises { Rises pass.old.knows pass.new.knows }
+        ensures facts { PassFacts F.fits pass.new.knows }
+        ensures room { HasRoom pass.new.knows }
+    {
+        pass.recall();
+        let layout = self.cells.layout();
+        if generation == layout.last {
+            return;
+        }
+        if 4 * count < 3 * layout.cells(generation) {
+            return;
+        }
+        self.relieve(pass);
+    }
+
+    // Helps while a move is due.
+    fn relieve(&self, pass: &mut Pass<F>)
+        requires of { IsOf self.now pass.old }
+        requires rest { AtRest pass.old.knows }
+        ensures of { IsOf self.now pass.new }
+        ensures table { pass.new.table ≡ pass.old.table }
+        ensures rest { AtRest pass.new.knows }
+        ensures rises { Rises pass.old.knows pass.new.knows }
+        ensures facts { PassFacts F.fits pass.new.knows }
+        ensures room { HasRoom pass.new.knows }
+    {
+        pass.recall();
+        loop {
+            match help(&self.cells, pass) {
+                Helped::Nothing => return,
+                Helped::LastFull => return,
+                Helped::Switched { .. } => {}
+            }
         }
     }
 
@@ -147,7 +204,7 @@ impl<F: Facts> Table<F> {
         self.cells.join(into, from)
     }
 
-    /// The generation that the table is in. For now that is its last from the start.
+    /// The generation that the table is in.
     pub fn shape(&self, pass: &mut Pass<F>) -> Shape
         requires of { IsOf self.now pass.old }
         requires rest { AtRest pass.old.knows }
@@ -160,13 +217,12 @@ impl<F: Facts> Table<F> {
         ensures cells { result.cells ≡ cells_of result.generation }
         ensures last { IsTrue result.last ↔ (result.generation ≡ self.now.layout.last) }
     {
-        pass.recall();
+        let generation = self.cells.current(pass);
         let layout = self.cells.layout();
-        let generation = layout.last;
         Shape {
             generation,
             cells: layout.cells(generation),
-            last: true,
+            last: generation == layout.last,
         }
     }
 }

@@ -4,7 +4,7 @@
 //! `Sync` and `Pass` is `Send`.
 ghost use Rattle.std.specs.Prelude.{◌≡◌, ◌≤◌, ◌<◌, IfOk, IsTrue, false};
 ghost use Rattle.map_core.specs.Machine.{IsWord};
-ghost use Rattle.table_tests.specs.States.{IsHome, Idle, SawKey, SameNumbers};
+ghost use Rattle.table_tests.specs.States.{IsHome, AtStart, SawKey, SameNumbers};
 
 use crate::start::meet;
 use crate::step_helpers::{
@@ -17,8 +17,8 @@ use std::sync::atomic::AtomicU64;
 use std::test::Fail;
 use std::thread::{Threads, join};
 
-// The keys 1 to 50 have 50 different homes among 128 cells.
-const KEYS: usize = 50;
+// The keys 1 to 35 have 35 different homes among 64 cells.
+const KEYS: usize = 35;
 
 /// What a thread was told: of each key the value that put_at_home, its own or the other's.
 #[derive(Drop)]
@@ -29,11 +29,11 @@ struct WorkerValues {
 
 // Whether the key put_at_home in its home cell afterwards.
 fn take_cell(cells: &Cells<AnyPair>, pass: &mut Pass<AnyPair>, cell: Cell, key: u64) -> bool
-    requires idle { Idle cells.now pass.old }
+    requires idle { AtStart cells.now pass.old }
     requires home { IsHome cells.now.layout key cell }
     requires key { IsWord key }
     ensures there { IsTrue result → SawKey cells.now pass.new cell key }
-    ensures other { result ≡ false → Idle cells.now pass.new }
+    ensures other { result ≡ false → AtStart cells.now pass.new }
     ensures numbers { SameNumbers pass.old pass.new }
 {
     let before = claim_cell(cells, pass, cell, key);
@@ -42,10 +42,10 @@ fn take_cell(cells: &Cells<AnyPair>, pass: &mut Pass<AnyPair>, cell: Cell, key: 
 
 // The value of the key in its home cell, or 0 where another key put_at_home there.
 fn put_at_home(cells: &Cells<AnyPair>, pass: &mut Pass<AnyPair>, key: u64, value: u64) -> u64
-    requires idle { Idle cells.now pass.old }
+    requires idle { AtStart cells.now pass.old }
     requires key { IsWord key }
     requires value { IsWord value }
-    ensures idle { Idle cells.now pass.new }
+    ensures idle { AtStart cells.now pass.new }
     ensures numbers { SameNumbers pass.old pass.new }
 {
     let cell = home_cell(cells, key);
@@ -67,9 +67,9 @@ fn offer_all(
     mut pass: Pass<AnyPair>,
     offer: u64,
 ) -> WorkerValues
-    requires idle { Idle cells.now pass }
+    requires idle { AtStart cells.now pass }
     requires offer { offer ≤ 2000 }
-    ensures idle { Idle cells.now result.pass }
+    ensures idle { AtStart cells.now result.pass }
     ensures numbers { SameNumbers pass result.pass }
 {
     let mut values = [0; KEYS];
@@ -88,20 +88,20 @@ fn race_both<R: Threads>(
     one: Pass<AnyPair>,
     other: Pass<AnyPair>,
 ) -> (WorkerValues, WorkerValues)
-    requires one { Idle cells.now one }
-    requires other { Idle cells.now other }
-    ensures first { Idle cells.now result.0.pass × SameNumbers one result.0.pass }
-    ensures second { Idle cells.now result.1.pass × SameNumbers other result.1.pass }
+    requires one { AtStart cells.now one }
+    requires other { AtStart cells.now other }
+    ensures first { AtStart cells.now result.0.pass × SameNumbers one result.0.pass }
+    ensures second { AtStart cells.now result.1.pass × SameNumbers other result.1.pass }
 {
     join(
         rt,
         move || -> WorkerValues
-            requires { Idle cells.now one }
-            ensures { Idle cells.entry.now result.pass × SameNumbers one result.pass }
+            requires { AtStart cells.now one }
+            ensures { AtStart cells.entry.now result.pass × SameNumbers one result.pass }
         { offer_all(cells, arrived, one, 1000) },
         move || -> WorkerValues
-            requires { Idle cells.now other }
-            ensures { Idle cells.entry.now result.pass × SameNumbers other result.pass }
+            requires { AtStart cells.now other }
+            ensures { AtStart cells.entry.now result.pass × SameNumbers other result.pass }
         { offer_all(cells, arrived, other, 2000) },
     )
 }
@@ -114,7 +114,7 @@ fn check_agreement<R: Abort>(
     ours: &[u64; KEYS],
     theirs: &[u64; KEYS],
 )
-    requires { Idle cells.now pass.old }
+    requires { AtStart cells.now pass.old }
 {
     for i in 0..KEYS {
         let key = i as u64 + 1;
@@ -140,11 +140,11 @@ fn two_threads_agree_on_the_value_of_each_key(rt: HostRuntime) -> Result<(), Fai
             values: theirs,
         } = second;
         let placed = b.placed();
-        assert!(rt; placed <= 50);
-        assert_eq!(rt; a.placed(), 50 - placed);
+        assert!(rt; placed <= 35);
+        assert_eq!(rt; a.placed(), 35 - placed);
         join_passes(&cells, &mut a, b);
-        assert_eq!(rt; a.placed(), 50);
-        assert_eq!(rt; load_count(&cells, &mut a), 50);
+        assert_eq!(rt; a.placed(), 35);
+        assert_eq!(rt; load_count(&cells, &mut a), 35);
         check_agreement(&rt, &cells, &mut a, &ours, &theirs);
     }
     Ok(())

@@ -12,8 +12,8 @@ use std::thread::{Threads, join};
 // For how many cells each thread has a key.
 const CELLS: u64 = 28;
 
-// The key of one side for a cell: 233 times an odd number, and 233 times the next number. Of 256 cells both have the
-// same home.
+// The key of one side for a cell: 233 times an odd number, and 233 times the next number. Of 64 cells, of 128 and of 256 both
+// have the same home.
 fn key_of(cell: u64, side: u64) -> u64
     requires cell { cell ≤ 28 }
     requires side { side ≤ 1 }

@@ -4,7 +4,7 @@ ghost use Rattle.std.specs.Prelude.{◌≡◌, ◌≢◌, ◌<◌, ◌≤◌, If
 ghost use Rattle.map_core.specs.Places.{IsCell, home};
 ghost use Rattle.map_core.specs.Machine.{IsWord};
 ghost use Rattle.map_cells.specs.Words.{key_number, value_number};
-ghost use Rattle.table_tests.specs.States.{IsHome, Idle, SawKey, Owes, SameNumbers, IsSmall};
+ghost use Rattle.table_tests.specs.States.{IsHome, AtStart, SawKey, Owes, SameNumbers, IsSmall};
 
 use map_cells::{Cell, Cells, KeyWord, Layout, Pass, Put, ValueWord};
 use map_core::HASH_MULTIPLIER;
@@ -18,14 +18,17 @@ pub(crate) fn small_cells(alloc: Global) -> Result<(Cells<AnyPair>, Pass<AnyPair
     Cells::new(alloc, Layout::of(64, 2), 2, &AnyPair)
 }
 
-/// The cell in which the walk of a key begins: the top bits of the key's product with 2^64 divided by the golden ratio.
+/// The cell of generation 0 in which the walk of a key begins: the top bits of the key's product with 2^64 divided by the
+/// golden ratio.
 pub(crate) fn home_cell(cells: &Cells<AnyPair>, key: u64) -> Cell
     ensures { IsHome cells.now.layout key result }
 {
-    let layout = cells.layout();
-    let generation = layout.last;
-    let index = home_index(generation, key);
-    Cell { generation, index }
+    let _ = cells;
+    let index = home_index(0, key);
+    Cell {
+        generation: 0,
+        index,
+    }
 }
 
 fn home_index(generation: u32, key: u64) -> u64
@@ -57,9 +60,9 @@ fn number_of_value(word: ValueWord) -> u64
 
 /// Loads a key word.
 pub(crate) fn load_key(cells: &Cells<AnyPair>, pass: &mut Pass<AnyPair>, cell: Cell) -> u64
-    requires idle { Idle cells.now pass.old }
+    requires idle { AtStart cells.now pass.old }
     requires cell { IsCell cells.now.layout cell.generation cell.index }
-    ensures idle { Idle cells.now pass.new }
+    ensures idle { AtStart cells.now pass.new }
     ensures numbers { SameNumbers pass.old pass.new }
 {
     number_of_key(cells.key_at(pass, cell))
@@ -67,9 +70,9 @@ pub(crate) fn load_key(cells: &Cells<AnyPair>, pass: &mut Pass<AnyPair>, cell: C
 
 /// Loads a value word.
 pub(crate) fn load_value(cells: &Cells<AnyPair>, pass: &mut Pass<AnyPair>, cell: Cell) -> u64
-    requires idle { Idle cells.now pass.old }
+    requires idle { AtStart cells.now pass.old }
     requires cell { IsCell cells.now.layout cell.generation cell.index }
-    ensures idle { Idle cells.now pass.new }
+    ensures idle { AtStart cells.now pass.new }
     ensures numbers { SameNumbers pass.old pass.new }
 {
     number_of_value(cells.value_at(pass, cell))
@@ -82,11 +85,11 @@ pub(crate) fn claim_cell(
     cell: Cell,
     key: u64,
 ) -> u64
-    requires idle { Idle cells.now pass.old }
+    requires idle { AtStart cells.now pass.old }
     requires home { IsHome cells.now.layout key cell }
     requires key { IsWord key }
     ensures won { result ≡ 0 → SawKey cells.now pass.new cell key }
-    ensures lost { result ≢ 0 → Idle cells.now pass.new }
+    ensures lost { result ≢ 0 → AtStart cells.now pass.new }
     ensures met { result ≢ 0 → SawKey cells.now pass.new cell result }
     ensures numbers { SameNumbers pass.old pass.new }
 {
@@ -104,11 +107,11 @@ pub(crate) fn publish_value(
 ) -> u64
     requires saw { SawKey cells.now pass.old cell key }
     requires home { IsCell cells.now.layout cell.generation cell.index }
-    requires last { cell.generation ≡ cells.now.layout.last }
+    requires first { cell.generation ≡ 0 }
     requires key { IsWord key }
     requires value { IsWord value }
     ensures won { result ≡ 0 → Owes cells.now pass.new }
-    ensures lost { result ≢ 0 → Idle cells.now pass.new }
+    ensures lost { result ≢ 0 → AtStart cells.now pass.new }
     ensures numbers { SameNumbers pass.old pass.new }
 {
     pass.recall();
@@ -117,8 +120,8 @@ pub(crate) fn publish_value(
 
 /// Loads the count.
 pub(crate) fn load_count(cells: &Cells<AnyPair>, pass: &mut Pass<AnyPair>) -> u64
-    requires { Idle cells.now pass.old }
-    ensures idle { Idle cells.now pass.new }
+    requires { AtStart cells.now pass.old }
+    ensures idle { AtStart cells.now pass.new }
     ensures numbers { SameNumbers pass.old pass.new }
 {
     cells.counted(pass)
@@ -127,40 +130,38 @@ pub(crate) fn load_count(cells: &Cells<AnyPair>, pass: &mut Pass<AnyPair>) -> u6
 /// Counts the entry that the pass has placed.
 pub(crate) fn count_entry(cells: &Cells<AnyPair>, pass: &mut Pass<AnyPair>) -> u64
     requires { Owes cells.now pass.old }
-    ensures idle { Idle cells.now pass.new }
+    ensures idle { AtStart cells.now pass.new }
     ensures numbers { SameNumbers pass.old pass.new }
 {
     cells.count(pass)
 }
 
-/// Looks a key up in the last generation.
+/// Looks a key up from generation 0 upwards.
 pub(crate) fn seek_key(cells: &Cells<AnyPair>, pass: &mut Pass<AnyPair>, key: u64) -> Option<u64>
-    requires idle { Idle cells.now pass.old }
+    requires idle { AtStart cells.now pass.old }
     requires key { IsWord key }
-    ensures idle { Idle cells.now pass.new }
+    ensures idle { AtStart cells.now pass.new }
     ensures numbers { SameNumbers pass.old pass.new }
 {
     pass.recall();
-    let layout = cells.layout();
-    cells.seek_from(pass, layout.last, key)
+    cells.seek_from(pass, 0, key)
 }
 
-/// Puts a pair into the last generation, and counts it where it was placed.
+/// Puts a pair into generation 0 or above it, and counts it where it was placed.
 pub(crate) fn put_pair(
     cells: &Cells<AnyPair>,
     pass: &mut Pass<AnyPair>,
     key: u64,
     value: u64,
 ) -> Result<Kept, Full>
-    requires idle { Idle cells.now pass.old }
+    requires idle { AtStart cells.now pass.old }
     requires key { IsWord key }
     requires value { IsWord value }
-    ensures idle { Idle cells.now pass.new }
+    ensures idle { AtStart cells.now pass.new }
     ensures numbers { SameNumbers pass.old pass.new }
 {
     pass.recall();
-    let layout = cells.layout();
-    match cells.put_from(pass, layout.last, key, value) {
+    match cells.put_from(pass, 0, key, value) {
         Put::Placed => {
             cells.count(pass);
             Ok(Kept::Placed)
@@ -172,10 +173,10 @@ pub(crate) fn put_pair(
 
 /// Splits off a pass.
 pub(crate) fn split_pass(cells: &Cells<AnyPair>, pass: &mut Pass<AnyPair>) -> Pass<AnyPair>
-    requires idle { Idle cells.now pass.old }
+    requires idle { AtStart cells.now pass.old }
     requires spare { 0 < pass.old.knows.spare }
-    ensures old { Idle cells.now pass.new }
-    ensures new { Idle cells.now result }
+    ensures old { AtStart cells.now pass.new }
+    ensures new { AtStart cells.now result }
     ensures number { result.knows.number ≢ 0 }
 {
     cells.split(pass)
@@ -183,10 +184,10 @@ pub(crate) fn split_pass(cells: &Cells<AnyPair>, pass: &mut Pass<AnyPair>) -> Pa
 
 /// Takes a pass into another.
 pub(crate) fn join_passes(cells: &Cells<AnyPair>, into: &mut Pass<AnyPair>, from: Pass<AnyPair>)
-    requires idle { Idle cells.now into.old }
-    requires also { Idle cells.now from }
+    requires idle { AtStart cells.now into.old }
+    requires also { AtStart cells.now from }
     requires number { from.knows.number ≢ 0 }
-    ensures { Idle cells.now into.new }
+    ensures { AtStart cells.now into.new }
 {
     cells.join(into, from)
 }

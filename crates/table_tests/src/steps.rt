@@ -1,5 +1,5 @@
-//! Every step call of `map_cells`, over a small table: 64 entries and 2 passes in 128 cells.
-ghost use Rattle.table_tests.specs.States.{Idle};
+//! The step calls of `map_cells`, over a small table: 64 entries and 2 passes in 64 cells, and then in 128.
+ghost use Rattle.table_tests.specs.States.{AtStart};
 
 use crate::step_helpers::{
     claim_cell, count_entry, home_cell, join_passes, load_count, load_key, load_value,
@@ -10,12 +10,12 @@ use share_map::{AnyPair, Full, Kept};
 use std::process::Abort;
 use std::test::Fail;
 
-// The top 7 bits of 5 * 11400714819323198485 modulo 2^64, and of 149 times it.
-const HOME_OF_5: u64 = 11;
+// The top 6 bits of 5 * 11400714819323198485 modulo 2^64, and of 149 times it.
+const HOME_OF_5: u64 = 5;
 
 const SAME_HOME: u64 = 149;
 
-// Two keys whose home is the last of the 128 cells.
+// Two keys whose home is the last of the 64 cells.
 const LAST_HOME: [u64; 2] = [144, 288];
 
 #[test]
@@ -50,16 +50,18 @@ fn the_greatest_table_is_made_and_let_go(rt: HostRuntime) -> Result<(), Fail> {
     Ok(())
 }
 
-// Every key word of the last generation is empty, and every value word unset.
+// Every key word of generation 0 is empty, and every value word unset.
 fn check_all_empty<R: Abort>(rt: &R, cells: &Cells<AnyPair>, pass: &mut Pass<AnyPair>)
-    requires { Idle cells.now pass.old }
-    ensures { Idle cells.now pass.new }
+    requires { AtStart cells.now pass.old }
+    ensures { AtStart cells.now pass.new }
 {
     let layout = cells.layout();
-    let generation = layout.last;
-    let count = layout.cells(generation);
+    let count = layout.cells(0);
     for index in 0..count {
-        let cell = Cell { generation, index };
+        let cell = Cell {
+            generation: 0,
+            index,
+        };
         assert_eq!(rt; load_key(cells, pass, cell), 0, "key {index}");
         assert_eq!(rt; load_value(cells, pass, cell), 0, "value {index}");
     }
@@ -152,8 +154,8 @@ fn walks_go_past_other_keys(rt: HostRuntime) -> Result<(), Fail> {
 fn a_walk_goes_on_at_the_first_cell(rt: HostRuntime) -> Result<(), Fail> {
     let (cells, mut pass) = small_cells(rt.alloc())?;
     let [one, other] = LAST_HOME;
-    assert_eq!(rt; home_cell(&cells, one).index, 127);
-    assert_eq!(rt; home_cell(&cells, other).index, 127);
+    assert_eq!(rt; home_cell(&cells, one).index, 63);
+    assert_eq!(rt; home_cell(&cells, other).index, 63);
     assert_eq!(rt; put_pair(&cells, &mut pass, one, 7), Ok(Kept::Placed));
     assert_eq!(rt; seek_key(&cells, &mut pass, other), None);
     assert_eq!(rt; put_pair(&cells, &mut pass, other, 8), Ok(Kept::Placed));
@@ -162,12 +164,12 @@ fn a_walk_goes_on_at_the_first_cell(rt: HostRuntime) -> Result<(), Fail> {
     Ok(())
 }
 
-// Puts the keys 1 to 128, each with 1000 more than itself.
+// Puts the keys 1 to 192, each with 1000 more than itself.
 fn fill<R: Abort>(rt: &R, cells: &Cells<AnyPair>, pass: &mut Pass<AnyPair>)
-    requires { Idle cells.now pass.old }
-    ensures { Idle cells.now pass.new }
+    requires { AtStart cells.now pass.old }
+    ensures { AtStart cells.now pass.new }
 {
-    for key in 1..129 {
+    for key in 1..193 {
         assert_eq!(rt;
             put_pair(cells, pass, key, 1000 + key),
             Ok(Kept::Placed),
@@ -176,12 +178,12 @@ fn fill<R: Abort>(rt: &R, cells: &Cells<AnyPair>, pass: &mut Pass<AnyPair>)
     }
 }
 
-// The keys 1 to 128 have their values.
+// The keys 1 to 192 have their values.
 fn check_all_found<R: Abort>(rt: &R, cells: &Cells<AnyPair>, pass: &mut Pass<AnyPair>)
-    requires { Idle cells.now pass.old }
-    ensures { Idle cells.now pass.new }
+    requires { AtStart cells.now pass.old }
+    ensures { AtStart cells.now pass.new }
 {
-    for key in 1..129 {
+    for key in 1..193 {
         assert_eq!(rt; seek_key(cells, pass, key), Some(1000 + key), "key {key}");
     }
 }
@@ -190,12 +192,12 @@ fn check_all_found<R: Abort>(rt: &R, cells: &Cells<AnyPair>, pass: &mut Pass<Any
 fn a_walk_through_all_cells_finds_no_room(rt: HostRuntime) -> Result<(), Fail> {
     let (cells, mut pass) = small_cells(rt.alloc())?;
     fill(&rt, &cells, &mut pass);
-    assert_eq!(rt; put_pair(&cells, &mut pass, 129, 1), Err(Full));
-    assert_eq!(rt; seek_key(&cells, &mut pass, 129), None);
+    assert_eq!(rt; put_pair(&cells, &mut pass, 193, 1), Err(Full));
+    assert_eq!(rt; seek_key(&cells, &mut pass, 193), None);
     check_all_found(&rt, &cells, &mut pass);
-    assert_eq!(rt; put_pair(&cells, &mut pass, 128, 1), Ok(Kept::Found(1128)));
-    assert_eq!(rt; pass.placed(), 128);
-    assert_eq!(rt; load_count(&cells, &mut pass), 128);
+    assert_eq!(rt; put_pair(&cells, &mut pass, 192, 1), Ok(Kept::Found(1192)));
+    assert_eq!(rt; pass.placed(), 192);
+    assert_eq!(rt; load_count(&cells, &mut pass), 192);
     Ok(())
 }
 

@@ -7,7 +7,7 @@ pub claim-requires-clause-reached : goal.claim-requires-clause-reached
 claim-requires-clause-reached c = reaches_of c.args.cells.now c.args.pass.now c.args.key c.args.cell c.requires.idle.of_table c.requires.home
 
 pub claim-requires-clause-settled : goal.claim-requires-clause-settled
-claim-requires-clause-settled c = settled_of _ c.args.cells.now c.args.pass.now c.args.cell.generation c.args.key c.requires.home.generation c.requires.idle.of_table c.recall.ensures
+claim-requires-clause-settled c = settled_of _ c.args.cells.now c.args.pass.now c.args.cell.generation c.args.key c.requires.home.generation c.requires.idle.start c.recall.ensures
 
 pub returns-clause-won : goal.returns-clause-won
 returns-clause-won c h =

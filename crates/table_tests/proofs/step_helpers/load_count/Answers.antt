@@ -1,4 +1,4 @@
-use Rattle.share_map.proofs.PointLemmas.{count_walks}
+use Rattle.map_cells.proofs.WalkLemmas.{count_walks}
 use Rattle.table_tests.proofs.StateLemmas.{idle_after, same_numbers}
 use Rattle.table_tests.proofs.step_helpers.load_count.Goals as goal
 

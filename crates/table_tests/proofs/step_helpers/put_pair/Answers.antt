@@ -1,29 +1,25 @@
-use Rattle.std.proofs.Common.{◌≡◌, true, inl, sym, subst, ◌∙◌, arith}
-use Rattle.map_core.specs.declared.layout.Layout.{Layout}
-use Rattle.map_core.specs.History.{is_in}
-use Rattle.map_core.specs.Places.{Within}
-use Rattle.map_core.proofs.PlaceLemmas.{last_within}
+use Rattle.std.proofs.Common.{inl, ◌∙◌, arith}
+use Rattle.map_core.proofs.PlaceLemmas.{up_to_last}
 use Rattle.table_tests.specs.States.{Owes}
 use Rattle.table_tests.proofs.StateLemmas.{current_of, idle_after, put_new, counted_one, same_numbers}
 use Rattle.table_tests.proofs.step_helpers.put_pair.Goals as goal
 
 pub put_from-requires-clause-generation : goal.put_from-requires-clause-generation
-put_from-requires-clause-generation c = subst (λ (l : Layout). Within c.args.cells.now.layout l.last) (sym c.layout-layout.ensures) (last_within c.args.cells.now.layout)
+put_from-requires-clause-generation c = up_to_last c.args.cells.now.layout 0 (omega arith)
 
 pub put_from-requires-clause-may : goal.put_from-requires-clause-may
-put_from-requires-clause-may c =
-    inl (tt, subst (λ (l : Layout). is_in l.last c.args.pass.now.knows.currents ≡ true) (sym c.layout-layout.ensures) (current_of _ c.args.cells.now c.args.pass.now c.requires.idle.of_table c.recall.ensures))
+put_from-requires-clause-may c = inl (tt, current_of _ c.args.cells.now c.args.pass.now c.requires.idle.start c.recall.ensures)
 
 pub count-requires-clause-uncounted : goal.count-requires-clause-uncounted
 count-requires-clause-uncounted c =
-    let current = subst (λ (l : Layout). is_in l.last c.args.pass.now.knows.currents ≡ true) (sym c.layout-layout.ensures) (current_of _ c.args.cells.now c.args.pass.now c.requires.idle.of_table c.recall.ensures) in
-    let owes : Owes c.args.cells.now c.put_from.new.pass = put_new _ c.args.cells.now c.args.pass.now c.put_from.new.pass c.put_from.ensures.of c.layout-layout.result.now.last c.args.key c.args.value tt current c.requires.idle c.in-Placed.ensures.put in
+    let current = current_of _ c.args.cells.now c.args.pass.now c.requires.idle.start c.recall.ensures in
+    let owes : Owes c.args.cells.now c.put_from.new.pass = put_new _ c.args.cells.now c.args.pass.now c.put_from.new.pass c.put_from.ensures.of 0 c.args.key c.args.value tt current c.requires.idle c.in-Placed.ensures.put in
     let one = owes.one in omega arith
 
 pub returns-in-Placed-clause-idle : goal.returns-in-Placed-clause-idle
 returns-in-Placed-clause-idle c =
-    let current = subst (λ (l : Layout). is_in l.last c.args.pass.now.knows.currents ≡ true) (sym c.layout-layout.ensures) (current_of _ c.args.cells.now c.args.pass.now c.requires.idle.of_table c.recall.ensures) in
-    let owes : Owes c.args.cells.now c.put_from.new.pass = put_new _ c.args.cells.now c.args.pass.now c.put_from.new.pass c.put_from.ensures.of c.layout-layout.result.now.last c.args.key c.args.value tt current c.requires.idle c.in-Placed.ensures.put in
+    let current = current_of _ c.args.cells.now c.args.pass.now c.requires.idle.start c.recall.ensures in
+    let owes : Owes c.args.cells.now c.put_from.new.pass = put_new _ c.args.cells.now c.args.pass.now c.put_from.new.pass c.put_from.ensures.of 0 c.args.key c.args.value tt current c.requires.idle c.in-Placed.ensures.put in
     counted_one _ c.args.cells.now c.put_from.new.pass c.count.new.pass c.count.ensures.of c.count.result owes c.count.ensures.raised
 
 pub returns-in-Placed-clause-numbers : goal.returns-in-Placed-clause-numbers

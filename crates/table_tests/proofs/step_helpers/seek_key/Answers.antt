@@ -1,12 +1,8 @@
-use Rattle.std.proofs.Common.{◌≡◌, true, sym, subst}
-use Rattle.map_core.specs.declared.layout.Layout.{Layout}
-use Rattle.map_core.specs.History.{is_in}
 use Rattle.table_tests.proofs.StateLemmas.{current_of, idle_after, same_numbers}
 use Rattle.table_tests.proofs.step_helpers.seek_key.Goals as goal
 
 pub seek_from-requires-clause-current : goal.seek_from-requires-clause-current
-seek_from-requires-clause-current c =
-    subst (λ (l : Layout). is_in l.last c.args.pass.now.knows.currents ≡ true) (sym c.layout-layout.ensures) (current_of _ c.args.cells.now c.args.pass.now c.requires.idle.of_table c.recall.ensures)
+seek_from-requires-clause-current c = current_of _ c.args.cells.now c.args.pass.now c.requires.idle.start c.recall.ensures
 
 pub returns-clause-idle : goal.returns-clause-idle
 returns-clause-idle c = idle_after _ c.args.cells.now c.args.pass.now c.seek_from.new.pass c.seek_from.ensures.of c.requires.idle c.seek_from.ensures.walk

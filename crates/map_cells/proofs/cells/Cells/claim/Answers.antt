@@ -52,4 +52,4 @@ invariant_of-pass g c =
     let word : ℕ = c.key_word-word.result in
     let place = key_there v.layout c.self.inside.layout at i word seat.inside c.key_word-word.ensures.place in
     let s = c.compare_exchange-before.ensures.2.tried at i cell place in
-    fields_after g.F.Facts.fits c.pass.inside.seat.me c.compare_exchange-before.new.seat.me c.pass.inside.number c.pass.inside.spare c.pass.inside.entries c.pass.inside.count_seen c.pass.invariant c.compare_exchange-before.ensures.2.slots s.looks.steps s.counted s.same_count s.facts
+    fields_after g.F.Facts.fits c.pass.inside.seat.me c.compare_exchange-before.new.seat.me c.pass.inside.number c.pass.inside.spare c.pass.inside.entries c.pass.inside.count_seen c.pass.inside.generation c.pass.invariant c.compare_exchange-before.ensures.2.slots s.looks.steps s.counted s.same_count s.facts

@@ -70,6 +70,7 @@ invariant_of-into g c =
       spare = c.into.invariant.spare ∙ sym (s.spare ∙ ap (λ (x : View). x.spare) is);
       entries = (λ k. c.into.invariant.entries k + c.from.invariant.entries k) ∙ sym (s.counted ∙ ap (λ (x : View). x.counted) is);
       count_seen = c.into.invariant.count_seen ∙ sym (s.count_seen ∙ ap (λ (x : View). x.count_seen) is);
+      generation = c.into.invariant.generation ∙ sym (s.generation ∙ ap (λ (x : View). x.generation) is);
       facts = s.facts;
     }
 

@@ -2,6 +2,7 @@ use Rattle.std.proofs.Common.{◌≡◌, ℕ, ◌-◌, replicate, sym, ap, subst
 use Rattle.map_core.specs.declared.view.View.{View}
 use Rattle.map_core.specs.Passes.{PassFacts}
 use Rattle.map_core.specs.Knowing.{first_view}
+use Rattle.map_core.proofs.PlaceLemmas.{lowest_zero}
 use Rattle.map_core.proofs.StartLemmas.{first_facts}
 use Rattle.map_cells.proofs.Openings.{opens}
 use Rattle.map_cells.proofs.cells.Cells.new.Goals as goal
@@ -24,5 +25,6 @@ invariant_of-pass g c =
       spare = ap (λ (n : ℕ). n - 1) c.requires ∙ sym (ap (λ (x : View). x.spare) is);
       entries = sym (ap (λ (x : View). x.counted) is);
       count_seen = sym (ap (λ (x : View). x.count_seen) is);
+      generation = sym (ap (λ (x : View). x.generation) is ∙ lowest_zero c.args.layout);
       facts = subst (PassFacts g.F.Facts.fits) (sym is) (first_facts g.F.Facts.fits c.args.layout c.of.result.numbers);
     }

@@ -55,7 +55,7 @@ invariant_of-pass g c =
     let x : ℕ = c.args.value in
     let seen : look v.known (key_place v.layout at i) ≡ k = subst (λ (p : PassView). look p.knows.known (key_place p.knows.layout at i) ≡ k) (sym c.pass.view_is) c.requires.seen in
     let s = c.compare_exchange-found.ensures.2.tried at i k cell place c.requires.key seen in
-    fields_after g.F.Facts.fits c.pass.inside.seat.me c.compare_exchange-found.new.seat.me c.pass.inside.number c.pass.inside.spare c.pass.inside.entries c.pass.inside.count_seen c.pass.invariant c.compare_exchange-found.ensures.2.slots s.steps s.counted s.same_count s.facts
+    fields_after g.F.Facts.fits c.pass.inside.seat.me c.compare_exchange-found.new.seat.me c.pass.inside.number c.pass.inside.spare c.pass.inside.entries c.pass.inside.count_seen c.pass.inside.generation c.pass.invariant c.compare_exchange-found.ensures.2.slots s.steps s.counted s.same_count s.facts
 
 pub returns-clause-of : goal.returns-clause-of
 returns-clause-of g c =

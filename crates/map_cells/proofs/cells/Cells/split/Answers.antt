@@ -39,6 +39,7 @@ invariant_of-pass g c =
       spare = ap (λ (n : ℕ). n - 1) c.pass.invariant.spare ∙ sym (ap (λ (x : View). x.spare) half);
       entries = c.pass.invariant.entries ∙ sym (ap (λ (x : View). x.counted) half);
       count_seen = c.pass.invariant.count_seen ∙ sym (ap (λ (x : View). x.count_seen) half);
+      generation = c.pass.invariant.generation ∙ sym (ap (λ (x : View). x.generation) half);
       facts = subst (PassFacts g.F.Facts.fits) (sym half) (halved_facts g.F.Facts.fits v spare c.pass.invariant.facts);
     }
 
@@ -56,6 +57,7 @@ invariant_of-result g c =
       spare = sym (ap (λ (x : View). x.spare) new);
       entries = sym (ap (λ (x : View). x.counted) new);
       count_seen = c.pass.invariant.count_seen ∙ sym (ap (λ (x : View). x.count_seen) new);
+      generation = c.pass.invariant.generation ∙ sym (ap (λ (x : View). x.generation) new);
       facts = subst (PassFacts g.F.Facts.fits) (sym new) (newcomer_facts g.F.Facts.fits v spare c.pass.invariant.facts);
     }
 

@@ -1,0 +1,50 @@
+use Rattle.std.proofs.Common.{◌<◌, ◌==◌, ℕ, sym, ap, subst}
+use mathlib.Core.Option.{none}
+use prog.Atomic.{either}
+use Rattle.atomic_table.specs.Table.{Allows, step}
+use Rattle.map_core.specs.declared.view.View.{View}
+use Rattle.map_cells.specs.declared.about.About.{About}
+use Rattle.map_core.specs.Machine.{BlockMoved}
+use Rattle.map_core.specs.Passes.{look}
+use Rattle.map_cells.specs.Seen.{PassView, CellsView}
+use Rattle.map_cells.specs.Rule.{TableHolds, Ended}
+use Rattle.map_cells.proofs.Moving.{finish_allowed}
+use Rattle.map_cells.proofs.StepFacts.{seated, finish_there, block_there, fields_after}
+use Rattle.map_cells.proofs.cells.Cells.finish.Goals as goal
+
+pub finish_word-word-requires : goal.finish_word-word-requires
+finish_word-word-requires g c = block_there c.self.inside.layout c.args.self.now.layout c.args.generation c.args.block (ap (λ (p : CellsView). p.layout) c.self.view_is) c.requires.block
+
+pub compare_exchange-requires : goal.compare_exchange-requires
+compare_exchange-requires g c =
+    let key = c.self.inside.table.shared.key in
+    let slots : ℕ = c.self.inside.table.shared.table_id.slots in
+    let me = c.pass.inside.seat.me in
+    let v : View = c.pass.inside.seat.me.0 in
+    let seat = seated c.args.self.now c.args.pass.now c.pass.inside.seat.table_id c.self.inside.table.shared.table_id v c.self.inside.layout key c.self.view_is c.pass.view_is c.self.invariant.0 c.requires.of in
+    let at : ℕ = c.args.generation in
+    let b : ℕ = c.args.block in
+    let block = block_there v.layout c.args.self.now.layout at b seat.layout c.requires.block in
+    let word : ℕ = c.finish_word-word.result in
+    let place = finish_there v.layout c.self.inside.layout at b word seat.inside c.finish_word-word.ensures.place in
+    let moved = subst (λ (p : PassView). BlockMoved p.knows.layout (look p.knows.known) at b) (sym c.pass.view_is) c.requires.moved in (
+      seat.tables,
+      subst (λ (n : ℕ). word < n) (sym c.self.invariant.1) c.finish_word-word.ensures.within,
+      subst (λ (x : About). Allows (TableHolds g.F.Facts.fits x) slots c.pass.inside.seat.id me word (λ n. either (n == 0) 1 n) (Ended g.F.Facts.fits (step slots word 0 1 none) me)) seat.about_is
+          (finish_allowed g.F.Facts.fits key.tag slots c.pass.inside.seat.id v me.1 c.pass.invariant.facts at b word block place moved),
+    )
+
+pub invariant_of-pass : goal.invariant_of-pass
+invariant_of-pass g c =
+    let key = c.self.inside.table.shared.key in
+    let slots : ℕ = c.self.inside.table.shared.table_id.slots in
+    let me = c.pass.inside.seat.me in
+    let v : View = c.pass.inside.seat.me.0 in
+    let seat = seated c.args.self.now c.args.pass.now c.pass.inside.seat.table_id c.self.inside.table.shared.table_id v c.self.inside.layout key c.self.view_is c.pass.view_is c.self.invariant.0 c.requires.of in
+    let at : ℕ = c.args.generation in
+    let b : ℕ = c.args.block in
+    let block = block_there v.layout c.args.self.now.layout at b seat.layout c.requires.block in
+    let word : ℕ = c.finish_word-word.result in
+    let place = finish_there v.layout c.self.inside.layout at b word seat.inside c.finish_word-word.ensures.place in
+    let s = (c.compare_exchange.ensures.2.finished at b block place).leaves in
+    fields_after g.F.Facts.fits c.pass.inside.seat.me c.compare_exchange.new.seat.me c.pass.inside.number c.pass.inside.spare c.pass.inside.entries c.pass.inside.count_seen c.pass.inside.generation c.pass.invariant c.compare_exchange.ensures.2.slots s.looks.steps s.counted s.same_count s.facts

@@ -55,7 +55,7 @@ def line_program(tables, operations):
 
 ONE_FILE = b"\1\1\x08\1/\0" + b"\2\1\x08\2\x0b\1a\0\0"
 FLAG_PRESENT, SEC_OFFSET, LINE_STRP, DATA1, STRP = 0x19, 0x17, 0x1f, 0x0b, 0x0e
-STMT_LIST, RANGES, NAME, EXTERNAL = 0x10, 0x55, 0x03, 0x3f
+STMT_LIST, RANGES, NAME, EXTERNAL, ADDR_BASE = 0x10, 0x55, 0x03, 0x3f, 0x73
 
 
 def many_names(headers, length):
@@ -110,11 +110,12 @@ def many_rows(operations):
 
 
 def many_lists(attributes, entries):
-    """Attributes that name one range list, whose entries set the base and give no range."""
-    table = declaration(1, 0x34, [(RANGES, SEC_OFFSET)]) + b"\0"
-    base = b"\5" + struct.pack("<Q", 0)
-    return elf_of([(".debug_abbrev", table), (".debug_info", unit_of(b"\1\0\0\0\0" * attributes)),
-                   (".debug_rnglists", base * entries + b"\0")])
+    """Attributes that name one range list, whose entries of two bytes set the base and give no range."""
+    root = declaration(1, 0x11, [(ADDR_BASE, SEC_OFFSET)], children=1)
+    table = root + declaration(2, 0x34, [(RANGES, SEC_OFFSET)]) + b"\0"
+    entry = unit_of(b"\1\0\0\0\0" + b"\2\0\0\0\0" * attributes + b"\0")
+    return elf_of([(".debug_abbrev", table), (".debug_info", entry), (".debug_addr", bytes(8)),
+                   (".debug_rnglists", b"\1\0" * entries + b"\0")])
 
 
 def many_texts(entries, length):
@@ -133,8 +134,8 @@ def hostile_files():
         ("100000 paths in one text", many_paths(100000, 100000), 0),
         ("1500 entries behind 1500 declarations", many_declarations(1500), 0),
         ("1000 units behind 1000 declarations", many_units_on_a_table(1000, 1000), 0),
-        ("400 units on one line program", many_units_on_a_program(400, 20000), 0),
+        ("4000 units on one line program", many_units_on_a_program(4000, 100000), 0),
         ("100000 rows", many_rows(100000), 0),
-        ("1000 attributes on one list", many_lists(1000, 1000), 0),
+        ("20000 attributes on one list", many_lists(20000, 20000), 0),
         ("400 values in one text", many_texts(400, 10000), 0),
     ]

@@ -1,5 +1,6 @@
 -- The pairs of an abbreviation declaration: DWARF 5, section 7.5.3.
 use Rattle.std.specs.Prelude.{ℕ, zero, suc, ℤ, pos, ◌+◌, ◌≡◌, ◌≤◌, ◌==◌, ◌&&◌, List, [], ◌∷◌, length, Result, Ok, Err, Option, Some, None, if◌then◌else◌}
+use Rattle.std.specs.Borrow.{Bor}
 use Rattle.dw_fields.specs.declared.fault_code.Fault.{Fault}
 use Rattle.dw_fields.specs.declared.fault_code.Code.TheVariants.{Truncated, DeclTruncated}
 use Rattle.dw_fields.specs.declared.byte_order.Order.TheVariants.{Little}
@@ -95,6 +96,17 @@ pub record PairsWereRead (section : List ℕ) (place : ℕ) : Type 0 where
 abbrev pub pairs_of : Result (List AttrSpec × ℕ) Fault → List AttrSpec
 pairs_of (Ok all) = all.0
 pairs_of (Err f) = []
+
+-- The pairs that are left: those of a list, where one was made of them, or those from a place on.
+abbrev pub left_pairs : Option (Bor (List AttrSpec)) → List ℕ → ℕ → List AttrSpec
+left_pairs (Some list) section place = list.now
+left_pairs None section place = pairs_of (pairs_at section place)
+
+-- The first of pairs that were read, and the place of the others; or there is none.
+abbrev pub GivesPair : Option (AttrSpec × ℕ) → List ℕ → List AttrSpec → Type 0
+GivesPair (Some (pair, next)) section pairs =
+    (pairs ≡ pair ∷ pairs_of (pairs_at section next)) × PairsWereRead section next
+GivesPair None section pairs = pairs ≡ []
 
 -- The first of a list was taken from it; or nothing was, from none.
 abbrev pub TakesPair : Option AttrSpec → List AttrSpec → List AttrSpec → Type 0

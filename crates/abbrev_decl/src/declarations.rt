@@ -2,11 +2,11 @@
 
 ghost use Rattle.std.specs.Prelude.{◌≡◌, ◌≤◌, ◌+◌, length};
 ghost use Rattle.abbrev_decl.specs.Counting.{ticked};
-ghost use Rattle.abbrev_decl.specs.Pairs.{PairsWereRead, TakesPair, pairs_of, pairs_at};
+ghost use Rattle.abbrev_decl.specs.Pairs.{PairsWereRead, TakesPair, left_pairs, pairs_of, pairs_at};
 ghost use Rattle.abbrev_decl.specs.Declarations.{EndsInside, HeadInside, Stands, StandsAs, at_head, declaration_at, head_at};
 
 use crate::counter::Steps;
-use crate::pairs::{AttrSpec, count_pairs, in_table, read_pair, skip_pairs, whole};
+use crate::pairs::{AttrSpec, count_pairs, in_table, next_pair, skip_pairs, whole};
 use dw_fields::{Code, Fault};
 use std::marker::Model;
 
@@ -20,7 +20,7 @@ struct Head {
 }
 
 /// An abbreviation declaration, which stays in its section: its pairs are read when they are asked
-/// for.
+/// for, or stand in a list that was made of them.
 #[derive(Drop)]
 pub struct Decl<'f> {
     section: &'f [u8],
@@ -29,11 +29,13 @@ pub struct Decl<'f> {
     children: bool,
     place: u64,
     pairs: u64,
+    list: Option<&'f [AttrSpec]>,
 }
 
 impl<'f> Model for Decl<'f> {
+    ghost use Rattle.std.specs.Prelude.{◌≡◌};
     ghost use Rattle.abbrev_decl.specs.Shapes.{DeclView};
-    ghost use Rattle.abbrev_decl.specs.Pairs.{PairsWereRead, pairs_of, pairs_at};
+    ghost use Rattle.abbrev_decl.specs.Pairs.{PairsWereRead, left_pairs, pairs_of, pairs_at};
 
     ghost Value = { DeclView };
 
@@ -45,7 +47,8 @@ impl<'f> Model for Decl<'f> {
       pairs = pairs_of (pairs_at d.section.now d.pairs);
     } };
 
-    ghost invariant = { λ d. PairsWereRead d.section.now d.pairs };
+    ghost invariant = { λ d. PairsWereRead d.section.now d.pairs
+        × (left_pairs d.list d.section.now d.pairs ≡ pairs_of (pairs_at d.section.now d.pairs)) };
 }
 
 impl<'f> Decl<'f> {
@@ -84,6 +87,41 @@ impl<'f> Decl<'f> {
         Attrs {
             section: self.section,
             place: self.pairs,
+            list: self.list,
+        }
+    }
+
+    /// The same declaration once more.
+    pub fn again(&self) -> Decl<'f>
+        ensures { result ≡ self.now }
+    {
+        Decl {
+            section: self.section,
+            code: self.code,
+            tag: self.tag,
+            children: self.children,
+            place: self.place,
+            pairs: self.pairs,
+            list: self.list,
+        }
+    }
+
+    /// The same declaration with a list of its pairs, from which `attrs` takes them without reading
+    /// them again.
+    pub fn listed<'a>(&self, list: &'a [AttrSpec]) -> Decl<'a>
+    where
+        'f: 'a,
+        requires { list.now ≡ self.now.pairs }
+        ensures { result ≡ self.now }
+    {
+        Decl {
+            section: self.section,
+            code: self.code,
+            tag: self.tag,
+            children: self.children,
+            place: self.place,
+            pairs: self.pairs,
+            list: Some(list),
         }
     }
 }
@@ -93,16 +131,17 @@ impl<'f> Decl<'f> {
 pub struct Attrs<'f> {
     section: &'f [u8],
     place: u64,
+    list: Option<&'f [AttrSpec]>,
 }
 
 impl<'f> Model for Attrs<'f> {
     ghost use Rattle.std.specs.Prelude.{List};
     ghost use Rattle.abbrev_decl.specs.declared.pairs.AttrSpec.{AttrSpec};
-    ghost use Rattle.abbrev_decl.specs.Pairs.{PairsWereRead, pairs_of, pairs_at};
+    ghost use Rattle.abbrev_decl.specs.Pairs.{PairsWereRead, left_pairs};
 
     ghost Value = { List AttrSpec };
 
-    ghost view = { λ a. pairs_of (pairs_at a.section.now a.place) };
+    ghost view = { λ a. left_pairs a.list a.section.now a.place };
 
     ghost invariant = { λ a. PairsWereRead a.section.now a.place };
 }
@@ -112,21 +151,31 @@ impl<'f> Attrs<'f> {
     pub fn count(&self) -> usize
         ensures { result ≡ length self.now }
     {
-        count_pairs(self.section, self.place)
+        match self.list {
+            Some(list) => list.len(),
+            None => count_pairs(self.section, self.place),
+        }
     }
 
     /// The next pair; `None` behind the last one.
     pub fn next(&mut self) -> Option<AttrSpec>
         ensures { TakesPair result self.old self.new }
     {
-        match read_pair(self.section, self.place) {
-            Ok((Some(pair), place)) => {
-                self.place = place;
-                Some(pair)
-            }
-            Ok((None, _)) => None,
-            // The pairs of a declaration were read before.
-            Err(_) => None,
+        match self.list {
+            Some(list) => match list.split_first() {
+                Some((pair, others)) => {
+                    self.list = Some(others);
+                    Some(*pair)
+                }
+                None => None,
+            },
+            None => match next_pair(self.section, self.place) {
+                Some((pair, place)) => {
+                    self.place = place;
+                    Some(pair)
+                }
+                None => None,
+            },
         }
     }
 }
@@ -197,6 +246,7 @@ fn at_head<'f>(section: &'f [u8], place: u64, head: Head) -> Decl<'f>
         children: head.children,
         place,
         pairs: head.pairs,
+        list: None,
     }
 }
 

@@ -2,7 +2,7 @@
 
 ghost use Rattle.std.specs.Prelude.{◌≡◌, ◌≤◌, ◌+◌, length, IfOk, IfSome, OnOk};
 ghost use Rattle.dw_fields.specs.Reading.{Moves, Onward, Reads};
-ghost use Rattle.abbrev_decl.specs.Pairs.{EndAtFirstZeroPair, PairsWereRead, Skips, from, implicit_at, in_table, pair_at, pairs_at, pairs_of, short_pair as pair_of_bytes};
+ghost use Rattle.abbrev_decl.specs.Pairs.{EndAtFirstZeroPair, GivesPair, PairsWereRead, Skips, from, implicit_at, in_table, pair_at, pairs_at, pairs_of, short_pair as pair_of_bytes};
 
 use dw_fields::{Code, Cut, Fault, Order, renamed};
 use dw_numbers::form;
@@ -120,6 +120,21 @@ pub(crate) fn read_pair(section: &[u8], place: u64) -> Result<(Option<AttrSpec>,
             place + 2,
         )),
         None => read_long_pair(section, place),
+    }
+}
+
+/// The first of the pairs that begin at `place` and were read before, and the place behind it; `None`
+/// where none is left.
+#[inline]
+pub(crate) fn next_pair(section: &[u8], place: u64) -> Option<(AttrSpec, u64)>
+    requires { PairsWereRead section.now place }
+    ensures { GivesPair result section.now (pairs_of (pairs_at section.now place)) }
+{
+    match read_pair(section, place) {
+        Ok((Some(pair), next)) => Some((pair, next)),
+        Ok((None, _)) => None,
+        // They were read before.
+        Err(_) => None,
     }
 }
 

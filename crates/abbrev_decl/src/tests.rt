@@ -1,7 +1,10 @@
 //! A small table, and declarations that can't be read.
 
+ghost use Rattle.std.specs.Prelude.{◌≡◌, IfSome};
+
 use crate::{
-    AttrSpec, Decls, FindFault, Scanner, Steps, decl_at, first_declaration_is_first, read_decl,
+    AttrSpec, Decl, Decls, FindFault, Scanner, Steps, decl_at, first_declaration_is_first,
+    read_decl,
 };
 
 /// Code 1 (compile_unit, children) with name as string; code 2 (variable) with a pair of one
@@ -50,8 +53,46 @@ fn a_pair_with_one_zero_is_an_ordinary_pair(rt: HostRuntime) {
         form: 0x13,
         implicit: 0,
     };
+    assert_eq!(rt; attrs.count(), 2);
     assert!(rt; attrs.next() == Some(one_zero));
     assert!(rt; attrs.next() == Some(typed));
+    assert!(rt; attrs.next().is_none());
+    assert!(rt; attrs.next().is_none());
+}
+
+/// The pairs of a declaration; `None` where it doesn't have two.
+fn pairs_of(declaration: &Decl<'_>) -> Option<[AttrSpec; 2]>
+    ensures pairs { IfSome result (λ pairs. pairs ≡ declaration.entry.now.pairs) }
+{
+    let mut attrs = declaration.attrs();
+    let Some(first) = attrs.next() else {
+        return None;
+    };
+    let Some(second) = attrs.next() else {
+        return None;
+    };
+    match attrs.next() {
+        Some(_) => None,
+        None => Some([first, second]),
+    }
+}
+
+#[test]
+fn a_list_of_the_pairs_gives_the_same_pairs(rt: HostRuntime) {
+    let mut steps = Steps::start(());
+    let mut scanner = Scanner::new(&TABLE);
+    let declaration = scanner.find(0, 2, &mut steps).expect(&rt, "code 2");
+    let pairs = pairs_of(&declaration).expect(&rt, "two pairs");
+    let listed = declaration.listed(&pairs).again();
+    assert_eq!(rt; listed.code(), 2);
+    assert_eq!(rt; listed.tag(), 0x34);
+    assert!(rt; !listed.children());
+    assert_eq!(rt; listed.place(), 7);
+    let mut attrs = listed.attrs();
+    assert_eq!(rt; attrs.count(), 2);
+    assert!(rt; attrs.next() == Some(pairs[0]));
+    assert_eq!(rt; attrs.count(), 1);
+    assert!(rt; attrs.next() == Some(pairs[1]));
     assert!(rt; attrs.next().is_none());
     assert!(rt; attrs.next().is_none());
 }

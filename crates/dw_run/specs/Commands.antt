@@ -7,6 +7,8 @@ use Rattle.unit_text.specs.SectionLine.{section_line}
 use Rattle.unit_text.specs.Tables.{tables_text}
 use Rattle.dw_run.specs.declared.command.Command.{Command}
 use Rattle.dw_run.specs.declared.command.Command.TheVariants as commands
+use Rattle.dw_run.specs.declared.command.TableCommand.{TableCommand}
+use Rattle.dw_run.specs.declared.command.TableCommand.TheVariants as table_commands
 use Rattle.dw_run.specs.declared.refusals.Refusal.{Refusal}
 use Rattle.dw_run.specs.declared.refusals.Refusal.TheVariants as refusals
 use Rattle.dw_run.specs.declared.parts.Part.TheVariants as parts
@@ -33,3 +35,9 @@ text_of_elf commands.Abbrev elf = tables_printed (sections_of elf).«abbrev»
 text_of_elf commands.Dump elf = part_of_units parts.Entries (sections_of elf)
 text_of_elf commands.Lines elf = part_of_units parts.LineTable (sections_of elf)
 text_of_elf commands.Ranges elf = part_of_units parts.Lists (sections_of elf)
+
+-- the command that goes over a table of the file
+abbrev pub command_of : TableCommand → Command
+command_of table_commands.Units = commands.Units
+command_of table_commands.Sections = commands.Sections
+command_of table_commands.Abbrev = commands.Abbrev

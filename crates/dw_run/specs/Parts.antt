@@ -9,7 +9,6 @@ use Rattle.form_values.specs.declared.raw.UnitFacts.{UnitFacts}
 use Rattle.line_text.specs.LineTable.{lines_text}
 use Rattle.unit_headers.specs.declared.header.UnitHeader.{UnitHeader}
 use Rattle.unit_headers.specs.Headers.{header_at, unit_count}
-use Rattle.unit_headers.specs.Units.{Units}
 use Rattle.unit_text.specs.Lists.{lists_text}
 use Rattle.unit_text.specs.Pieces.{Text}
 use Rattle.unit_text.specs.UnitLine.{unit_line}
@@ -17,10 +16,6 @@ use Rattle.unit_text.specs.Units.{read_unit_text}
 use Rattle.dw_run.specs.declared.parts.Part.{Part}
 use Rattle.dw_run.specs.declared.parts.Part.TheVariants as parts
 use Rattle.dw_run.specs.CommandTexts.{CommandText, units_printed}
-
--- the units of a file's sections
-abbrev pub units_of : SectionsView → Units
-units_of s = record { info = s.info; order = s.order; abbrev_length = length s.«abbrev» }
 
 -- what a unit's first entry says of it, and all its entries: refused at its root, or else at an entry
 unfoldable pub unit_of : SectionsView → UnitHeader → Result (UnitFacts × List EntryView) Fault

@@ -20,6 +20,18 @@ pub enum Command {
     Ranges,
 }
 
+/// A command that looks no declaration up: it reads the headers of sections or units, or the
+/// abbreviation tables from end to end.
+#[derive(Clone, Copy, Debug, PartialEq, Eq)]
+pub(crate) enum TableCommand {
+    /// One line per unit.
+    Units,
+    /// One line per section of the file.
+    Sections,
+    /// All abbreviation tables.
+    Abbrev,
+}
+
 /// The command of a name, where there is one.
 #[tactic(auto, unfolding(crate::specs::Words::command_named))]
 pub fn find_command(name: &str) -> Option<Command>

@@ -6,7 +6,8 @@
 //! source or a sink fails. A command goes over the units of a file one at a time, and prints the
 //! texts before the first unit that is refused ([`texts_before_the_first_refusal`]).
 //!
-//! [`append_part`] is the text of one unit: its line, its entries, its line table or its lists.
+//! [`append_part`] is the text of one unit of an opened file: its line, its entries, its line table
+//! or its lists. A [`UnitReader`] looks up what the unit's text needs.
 #![tactic(auto)]
 
 mod command;
@@ -18,6 +19,7 @@ mod refusal_lines;
 mod refusals;
 mod section_lines;
 mod tables;
+mod unit_reader;
 mod unit_texts;
 mod units;
 mod words;
@@ -27,3 +29,4 @@ pub use elf_builder::ElfBuilder;
 pub use laws::texts_before_the_first_refusal;
 pub use parts::{Part, append_part};
 pub use program::{RunEnd, run};
+pub use unit_reader::UnitReader;

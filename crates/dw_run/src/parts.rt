@@ -1,23 +1,16 @@
 //! The parts of a unit that commands print: its line, its entries, its line table, or its lists.
 
-ghost use Rattle.std.specs.Prelude.{◌≡◌, ◌<◌, ◌^◌, length, map};
-ghost use Rattle.elf_sections.specs.Shapes.{AreShort, sections_view};
-ghost use Rattle.entry_tree.specs.Units.{IsUnitOf, facts_of};
-ghost use Rattle.entry_tree.specs.Views.{entry_view};
-ghost use Rattle.unit_headers.specs.Refusals.{Answers};
+ghost use Rattle.std.specs.Prelude.{◌≡◌, ◌<◌};
+ghost use Rattle.unit_headers.specs.Headers.{unit_count};
 ghost use Rattle.unit_text.specs.Pieces.{Writes};
-ghost use Rattle.dw_run.specs.Parts.{part_of, unit_of};
+ghost use Rattle.dw_run.specs.Parts.{unit_part};
 
-use abbrev_decl::{Scanner, Steps};
+use crate::unit_reader::UnitReader;
 use bumpalo::Bump;
-use elf_sections::Sections;
-use entry_tree::{Entry, read_entries, root_facts};
-use form_values::UnitFacts;
-use line_programs::PathTexts;
 use line_text::write_lines_with;
 use std::alloc::Global;
-use unit_headers::{UnitHeader, UnitRefusal};
-use unit_text::{write_lists, write_unit, write_unit_line};
+use unit_headers::UnitRefusal;
+use unit_text::{write_lists_with, write_unit, write_unit_line};
 
 /// A part of a unit.
 #[derive(Clone, Copy, Debug, PartialEq, Eq)]
@@ -32,88 +25,39 @@ pub enum Part {
     Lists,
 }
 
-/// Appends this part of the unit of a header, which is one of these sections. The unit's entries
-/// lie in the arena.
+/// Appends this part of unit `unit` of an opened file. The unit's entries lie in the arena.
 ///
 /// # Errors
 /// The first fault of the part, or want of memory; `out` is then as it was.
+#[tactic(auto, unfolding(crate::specs::Parts::unit_part, crate::specs::Parts::part_of, crate::specs::Parts::unit_of, handle_cache::specs::Scanned::unit_facts))]
 pub fn append_part(
     alloc: Global,
     part: Part,
     arena: &Bump,
-    sections: &Sections<'_>,
-    header: &UnitHeader,
+    reader: &mut UnitReader<'_, '_>,
+    unit: u32,
     out: &mut Vec<u8>,
 ) -> Result<(), UnitRefusal>
-    requires unit { IsUnitOf (sections_view sections.now) header.now }
-    requires short { AreShort (sections_view sections.now) }
-    ensures { Writes result out.old.items out.new.items
-        (part_of part (sections_view sections.now) header.now) }
+    requires { unit < unit_count reader.old.info reader.old.order }
+    ensures text { Writes result out.old.items out.new.items (unit_part part reader.old unit) }
+    ensures same { reader.new ≡ reader.old }
 {
-    let mut texts = PathTexts::new(sections);
-    append_part_with(alloc, part, arena, sections, &mut texts, header, out)
-}
-
-/// The same, with the finder of the texts of paths that the file's other units were read with.
-#[tactic(auto, unfolding(crate::specs::Parts::part_of))]
-pub(crate) fn append_part_with(
-    alloc: Global,
-    part: Part,
-    arena: &Bump,
-    sections: &Sections<'_>,
-    texts: &mut PathTexts<'_>,
-    header: &UnitHeader,
-    out: &mut Vec<u8>,
-) -> Result<(), UnitRefusal>
-    requires unit { IsUnitOf (sections_view sections.now) header.now }
-    requires short { AreShort (sections_view sections.now) }
-    requires texts { texts.old ≡ sections_view sections.now }
-    ensures text { Writes result out.old.items out.new.items
-        (part_of part (sections_view sections.now) header.now) }
-    ensures texts { texts.new ≡ texts.old }
-{
+    let header = reader.header(unit)?;
     match part {
-        Part::Line => Ok(write_unit_line(alloc, header, out)?),
+        Part::Line => Ok(write_unit_line(alloc, &header, out)?),
         Part::Entries => {
-            let (facts, entries) = read_unit(arena, sections, header)?;
-            write_unit(alloc, header, entries, sections, &facts, out)
+            let facts = reader.facts(unit)?;
+            let entries = reader.entries(arena, &header)?;
+            write_unit(alloc, &header, entries, reader.sections(), &facts, out)
         }
         Part::LineTable => {
-            let facts = read_facts(sections, header)?;
-            write_lines_with(alloc, texts, header, &facts, out)
+            let facts = reader.facts(unit)?;
+            write_lines_with(alloc, &mut reader.tables, &header, &facts, out)
         }
         Part::Lists => {
-            let (facts, entries) = read_unit(arena, sections, header)?;
-            write_lists(alloc, sections, header, &facts, entries, out)
+            let facts = reader.facts(unit)?;
+            let entries = reader.entries(arena, &header)?;
+            write_lists_with(alloc, &mut reader.lists, &header, &facts, entries, out)
         }
     }
-}
-
-/// What the unit's first entry says of it.
-fn read_facts(sections: &Sections<'_>, header: &UnitHeader) -> Result<UnitFacts, UnitRefusal>
-    requires { IsUnitOf (sections_view sections.now) header.now }
-    ensures { Answers (λ facts. facts) result (facts_of (sections_view sections.now) header.now) }
-{
-    let mut scanner = Scanner::new(sections.abbrev);
-    let mut steps = Steps::start(());
-    Ok(root_facts(&mut scanner, header, sections, &mut steps)?)
-}
-
-/// What the unit's first entry says of it, and all its entries, in the arena.
-#[tactic(auto, unfolding(crate::specs::Parts::unit_of))]
-fn read_unit<'a, 'f: 'a>(
-    arena: &'a Bump,
-    sections: &Sections<'f>,
-    header: &UnitHeader,
-) -> Result<(UnitFacts, &'a [Entry<'a>]), UnitRefusal>
-    requires unit { IsUnitOf (sections_view sections.now) header.now }
-    requires short { AreShort (sections_view sections.now) }
-    ensures { Answers (λ read. (read.0, map entry_view read.1.now)) result
-        (unit_of (sections_view sections.entry.now) header.now) }
-{
-    let facts = read_facts(sections, header)?;
-    let mut scanner = Scanner::new(sections.abbrev);
-    let mut steps = Steps::start(());
-    let entries = read_entries(arena, &mut scanner, header, sections, &mut steps)?;
-    Ok((facts, entries))
 }

@@ -5,23 +5,27 @@ ghost use Rattle.std.specs.String.{string_bytes};
 ghost use Rattle.dw_outside.specs.Faults.{HasCause, Rose};
 ghost use Rattle.dw_outside.specs.Gains.{Gains, GainsPart};
 ghost use Rattle.dw_outside.specs.declared.stops.WriteStop.TheVariants as write_stops;
-ghost use Rattle.dw_run.specs.Commands.{text_of_elf};
+ghost use Rattle.elf_sections.specs.Rows.{ElfView};
+ghost use Rattle.elf_sections.specs.Shapes.{sections_of};
+ghost use Rattle.dw_run.specs.Commands.{command_of, text_of_elf};
 ghost use Rattle.dw_run.specs.Endings.{unread_line};
 ghost use Rattle.dw_run.specs.Output.{Ends, Meets, NothingFailed, StopsWithin};
 ghost use Rattle.dw_run.specs.Output.{err_of, output_of, output_of_text, text_of_file};
 ghost use Rattle.dw_run.specs.CommandTexts.{Prints};
+ghost use Rattle.dw_run.specs.Parts.{part_of_units};
 ghost use Rattle.dw_run.specs.Words.{meaning_of, request_view};
 
-use crate::command::Command;
+use crate::command::{Command, TableCommand};
 use crate::endings::{DONE, NO_MEANING, NO_MEMORY, NOT_READ, NOT_WRITTEN, end_refused, end_with};
 use crate::parts::Part;
 use crate::refusals::Refusal;
 use crate::section_lines::print_sections;
 use crate::tables::print_tables;
-use crate::units::print_parts;
+use crate::units::{print_parts, print_unit_lines};
 use crate::words::{Request, read_words};
 use dw_outside::{ReadStop, Sink, Source, WriteStop, read_file};
 use elf_sections::{Elf, FILE_LIMIT, OpenRefusal};
+use handle_cache::Handle;
 use std::alloc::Global;
 
 /// How a run ended.
@@ -132,7 +136,6 @@ fn print_and_end<O: Sink, E: Sink>(
 }
 
 /// Writes the command's text on the bytes of a file to `out`, and answers the refusal that ends it.
-#[tactic(auto, unfolding(crate::specs::Output::text_of_file))]
 fn print_file<O: Sink>(
     alloc: Global,
     command: Command,
@@ -143,6 +146,28 @@ fn print_file<O: Sink>(
         (O.held out.new) }
     ensures cause { HasCause write_stops.Failed (O.faults out.old) (O.faults out.new) result }
 {
+    match command {
+        Command::Units => print_table(alloc, TableCommand::Units, file, out),
+        Command::Sections => print_table(alloc, TableCommand::Sections, file, out),
+        Command::Abbrev => print_table(alloc, TableCommand::Abbrev, file, out),
+        Command::Dump => print_opened(alloc, command, Part::Entries, file, out),
+        Command::Lines => print_opened(alloc, command, Part::LineTable, file, out),
+        Command::Ranges => print_opened(alloc, command, Part::Lists, file, out),
+    }
+}
+
+/// Writes the text of a command that looks no declaration up.
+#[tactic(auto, unfolding(crate::specs::Output::text_of_file))]
+fn print_table<O: Sink>(
+    alloc: Global,
+    command: TableCommand,
+    file: &[u8],
+    out: &mut O,
+) -> Result<Option<Refusal>, WriteStop>
+    ensures printed { Prints result (text_of_file (command_of command) file.now) (O.held out.old)
+        (O.held out.new) }
+    ensures cause { HasCause write_stops.Failed (O.faults out.old) (O.faults out.new) result }
+{
     match Elf::read(alloc, file) {
         Ok(elf) => print_elf(alloc, command, &elf, out),
         Err(OpenRefusal::Refused(refusal)) => Ok(Some(Refusal::File(refusal))),
@@ -150,23 +175,43 @@ fn print_file<O: Sink>(
     }
 }
 
-/// Writes the command's text on the sections of a file.
+/// Writes the text of such a command on the sections of a file.
+#[tactic(auto, unfolding(crate::specs::Commands::command_of))]
 fn print_elf<O: Sink>(
     alloc: Global,
-    command: Command,
+    command: TableCommand,
     elf: &Elf<'_>,
     out: &mut O,
 ) -> Result<Option<Refusal>, WriteStop>
-    ensures printed { Prints result (text_of_elf command elf.now) (O.held out.old)
+    ensures printed { Prints result (text_of_elf (command_of command) elf.now) (O.held out.old)
         (O.held out.new) }
     ensures cause { HasCause write_stops.Failed (O.faults out.old) (O.faults out.new) result }
 {
     match command {
-        Command::Units => print_parts(alloc, Part::Line, &elf.debug_sections(), out),
-        Command::Sections => print_sections(alloc, elf.sections(), out),
-        Command::Abbrev => print_tables(alloc, elf.debug_sections().abbrev, out),
-        Command::Dump => print_parts(alloc, Part::Entries, &elf.debug_sections(), out),
-        Command::Lines => print_parts(alloc, Part::LineTable, &elf.debug_sections(), out),
-        Command::Ranges => print_parts(alloc, Part::Lists, &elf.debug_sections(), out),
+        TableCommand::Units => print_unit_lines(alloc, &elf.debug_sections(), out),
+        TableCommand::Sections => print_sections(alloc, elf.sections(), out),
+        TableCommand::Abbrev => print_tables(alloc, elf.debug_sections().abbrev, out),
+    }
+}
+
+/// Opens the file for one reader, and writes a part of each of its units, which is what the command
+/// prints.
+#[tactic(auto, unfolding(crate::specs::Output::text_of_file))]
+fn print_opened<O: Sink>(
+    alloc: Global,
+    command: Command,
+    part: Part,
+    file: &[u8],
+    out: &mut O,
+) -> Result<Option<Refusal>, WriteStop>
+    requires { (elf : ElfView) → text_of_elf command elf ≡ part_of_units part (sections_of elf) }
+    ensures printed { Prints result (text_of_file command file.now) (O.held out.old)
+        (O.held out.new) }
+    ensures cause { HasCause write_stops.Failed (O.faults out.old) (O.faults out.new) result }
+{
+    match Handle::open(alloc, file, 1) {
+        Ok((handle, mut pass)) => print_parts(alloc, part, &handle, &mut pass, out),
+        Err(OpenRefusal::Refused(refusal)) => Ok(Some(Refusal::File(refusal))),
+        Err(OpenRefusal::OutOfMemory) => Err(WriteStop::OutOfMemory),
     }
 }

@@ -26,11 +26,11 @@ came : {A B : Type 0} → (a : Result A ElfRefusal) (f : A → Result B ElfRefus
 came (Ok a) f b e = record { value = a; first = refl; rest = e }
 came (Err r) f b e = cc
 
-part_short : (held : Bool) (size offset : ℕ) (file : List ℕ) → length file ≤ FILE_LIMIT → length (if held then take size (drop offset file) else []) < 2 ^ 32
+part_short : (held : Bool) (size offset : ℕ) (file : List ℕ) → length file ≤ FILE_LIMIT → length (if held then take size (drop offset file) else []) < 2 ^ 31
 part_short true size offset file fits = omega (arith, length-take size (drop offset file), length-drop offset file)
 part_short false size offset file fits = omega arith
 
-contents_short : (file : List ℕ) (header : SectionHeader) → length file ≤ FILE_LIMIT → length (contents_of file header) < 2 ^ 32
+contents_short : (file : List ℕ) (header : SectionHeader) → length file ≤ FILE_LIMIT → length (contents_of file header) < 2 ^ 31
 unfolding contents_of
 contents_short file header fits = part_short (has_bytes header.kind) header.size header.offset file fits
 
@@ -44,10 +44,10 @@ unfolding named_rows
 named_short layout table file names rows fits e =
     let step = came (refuse_at NameOutside (first_in (has_no_name names) 1 (section_headers_of layout table file))) _ rows e in
     let same : (null_row ∷ map (row_of file names) (section_headers_of layout table file)) ≡ rows = cc step.rest in
-    let empty : 0 < 2 ^ 32 = omega arith in
+    let empty : 0 < 2 ^ 31 = omega arith in
     subst AllShort same (empty, headed_short file names (section_headers_of layout table file) fits)
 
--- the bytes of each section of a table are fewer than 2^32, since the file has no more than 2^30
+-- the bytes of each section of a table are fewer than 2^31, since the file has no more than 2^30
 pub rows_short : (layout : ClassLayout) (table : SectionTable) (file : List ℕ) (rows : List SectionRow) → length file ≤ FILE_LIMIT → rows_of layout table file ≡ Ok rows → AllShort rows
 unfolding rows_of
 rows_short layout table file rows fits e =

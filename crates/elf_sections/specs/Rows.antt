@@ -21,7 +21,7 @@ unfoldable pub bytes_named : List ℕ → List SectionRow → Option (List ℕ)
 bytes_named name [] = None
 bytes_named name (row ∷ rows) = if bytes_eq row.name name then Some row.bytes else bytes_named name rows
 
--- each section's bytes are few enough for 32-bit places
+-- each section's bytes are fewer than 2^31, so that a place in it and a code of 32 bits fit 63 bits
 abbrev pub AllShort : List SectionRow → Type 0
 AllShort [] = Unit {0}
-AllShort (row ∷ rows) = (length row.bytes < 2 ^ 32) × AllShort rows
+AllShort (row ∷ rows) = (length row.bytes < 2 ^ 31) × AllShort rows

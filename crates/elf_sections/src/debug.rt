@@ -67,7 +67,7 @@ impl<'f> Sections<'f> {
 fn first_named_or_empty<'f>(sections: &[Section<'f>], name: &[u8]) -> &'f [u8]
     requires { AllShort (map row sections.now) }
     ensures bytes { result.now ≡ unwrap_or (bytes_named name.now (map row sections.now)) [] }
-    ensures short { length result.now < 2 ^ 32 }
+    ensures short { length result.now < 2 ^ 31 }
 {
     match first_named(sections, name) {
         Some(bytes) => bytes,
@@ -82,6 +82,7 @@ pub(crate) fn debug_sections_among<'f>(order: Order, sections: &[Section<'f>]) -
     ensures sections { sections_view result
         ≡ sections_of (record { order = order; sections = map row sections.now }) }
     ensures short { AreShort (sections_view result) }
+    ensures declarations { length (sections_view result).«abbrev» < 2 ^ 31 }
 {
     Sections {
         order,

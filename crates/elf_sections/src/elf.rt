@@ -76,7 +76,7 @@ impl<'f> Elf<'f> {
     /// The bytes of the first section of that name, where there is one.
     pub fn section(&self, name: &str) -> Option<&'f [u8]>
         ensures bytes { option_map (λ b. b.now) result ≡ bytes_named name.now self.now.sections }
-        ensures short { IfSome result (λ b. length b.now < 2 ^ 32) }
+        ensures short { IfSome result (λ b. length b.now < 2 ^ 31) }
     {
         first_named(self.sections.as_slice(), name.as_bytes())
     }
@@ -85,6 +85,7 @@ impl<'f> Elf<'f> {
     pub fn debug_sections(&self) -> Sections<'f>
         ensures sections { sections_view result ≡ sections_of self.now }
         ensures short { AreShort (sections_view result) }
+        ensures declarations { length (sections_view result).«abbrev» < 2 ^ 31 }
     {
         debug_sections_among(self.order, self.sections.as_slice())
     }

@@ -11,7 +11,7 @@ use crate::section::Section;
 pub(crate) fn first_named<'f>(sections: &[Section<'f>], name: &[u8]) -> Option<&'f [u8]>
     requires { AllShort (map row sections.now) }
     ensures bytes { option_map (λ b. b.now) result ≡ bytes_named name.now (map row sections.now) }
-    ensures short { IfSome result (λ b. length b.now < 2 ^ 32) }
+    ensures short { IfSome result (λ b. length b.now < 2 ^ 31) }
 {
     for section in sections {
         if section.name == name {

@@ -4,4 +4,5 @@ pub mod Keys
 pub mod Facts
 pub mod Tiles
 pub mod RootValues
+pub mod Remembered
 pub mod Units

@@ -54,7 +54,7 @@ pub(crate) fn read_attrs<'a, 'f: 'a>(
     arena: &'a Bump,
     cut: &mut Cut<'f>,
     header: &UnitHeader,
-    pairs: Attrs<'f>,
+    pairs: Attrs<'a>,
 ) -> Result<&'a [Attr<'a>], UnitRefusal>
     requires { IsAddressSize header.now.address_size }
     ensures attrs { AnswersAt (λ s. map attr_view s.now)

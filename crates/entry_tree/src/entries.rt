@@ -9,11 +9,12 @@ ghost use Rattle.unit_headers.specs.Refusals.{Answers, AnswersAt};
 ghost use Rattle.entry_tree.specs.Views.{entry_view, stepped_entries, stepped_view};
 ghost use Rattle.entry_tree.specs.Entries.{depth_behind, behind_entry, coded_at, entry_at, entries_in};
 ghost use Rattle.entry_tree.specs.Keys.{GainsOnly, IsFoundKey, IsKeyAmong, KeysKnown, KeysNoted};
+ghost use Rattle.entry_tree.specs.Remembered.{Remembers};
 ghost use Rattle.entry_tree.specs.Units.{IsUnitOf, entries_of};
 
 use crate::attributes::read_attrs;
-use crate::declared::find_declaration;
 use crate::entry::{Entry, Stepped};
+use crate::remembered::{DeclMemo, find_remembered};
 use abbrev_decl::{Decls, Steps};
 use bumpalo::Bump;
 use bumpalo::collections::into_bump_slice;
@@ -34,7 +35,7 @@ fn depth_behind(children: bool, depth: u32) -> u32
 /// The entry at `place`, whose code isn't 0 and ends where the cut stands, and the depth behind it.
 #[tactic(auto, unfolding(crate::specs::Entries::coded_at))]
 fn read_coded<'a, 'f: 'a, D: Decls<'f>, L>(
-    arena: &'a Bump,
+    memo: &mut DeclMemo<'a>,
     decls: &mut D,
     header: &UnitHeader,
     cut: &mut Cut<'f>,
@@ -47,6 +48,8 @@ fn read_coded<'a, 'f: 'a, D: Decls<'f>, L>(
     requires size { IsAddressSize header.now.address_size }
     requires some { 0 < code }
     requires room { depth + 1 < 2 ^ 32 }
+    requires remembers { Remembers (D.section decls.old) header.now.«abbrev» (D.seen decls.old)
+        (D.spent decls.old) memo.old.slots.items }
     ensures entry { AnswersAt (λ r. (r.0, entry_view r.1))
         result (λ s. behind_entry depth
         (coded_at (D.section decls.old) header.now.«abbrev» (widths_of header.now)
@@ -62,9 +65,11 @@ fn read_coded<'a, 'f: 'a, D: Decls<'f>, L>(
         (key header.now.«abbrev» code)) }
     ensures known { code < 2 ^ 32 → Contains (D.seen decls.old) (key header.now.«abbrev» code)
         → steps.new ≡ steps.old }
+    ensures remembers { OnOk result (Remembers (D.section decls.new) header.now.«abbrev»
+        (D.seen decls.new) (D.spent decls.new) memo.new.slots.items) }
 {
-    let declaration = find_declaration(decls, header.abbrev, code, place, steps)?;
-    let attrs = read_attrs(arena, cut, header, declaration.attrs())?;
+    let declaration = find_remembered(memo, decls, header.abbrev, code, place, steps)?;
+    let attrs = read_attrs(memo.arena, cut, header, declaration.attrs())?;
     let entry = Entry {
         place,
         depth,
@@ -78,7 +83,7 @@ fn read_coded<'a, 'f: 'a, D: Decls<'f>, L>(
 /// What stands at a depth: a code 0, or an entry.
 #[tactic(auto, unfolding(crate::specs::Entries::entry_at))]
 fn read_entry<'a, 'f: 'a, D: Decls<'f>, L>(
-    arena: &'a Bump,
+    memo: &mut DeclMemo<'a>,
     decls: &mut D,
     header: &UnitHeader,
     cut: &mut Cut<'f>,
@@ -88,6 +93,8 @@ fn read_entry<'a, 'f: 'a, D: Decls<'f>, L>(
     requires inside { header.now.«abbrev» ≤ length (D.section decls.old) }
     requires size { IsAddressSize header.now.address_size }
     requires room { depth + 1 < 2 ^ 32 }
+    requires remembers { Remembers (D.section decls.old) header.now.«abbrev» (D.seen decls.old)
+        (D.spent decls.old) memo.old.slots.items }
     ensures entry { AnswersAt stepped_view result
         (entry_at (D.section decls.old) header.now.«abbrev» (widths_of header.now) depth)
         cut.old cut.new }
@@ -105,6 +112,8 @@ fn read_entry<'a, 'f: 'a, D: Decls<'f>, L>(
     ensures known { IfOk result
         (λ s. KeysKnown (D.seen decls.old) header.now.«abbrev» (stepped_entries s)
         → steps.new ≡ steps.old) }
+    ensures remembers { OnOk result (Remembers (D.section decls.new) header.now.«abbrev»
+        (D.seen decls.new) (D.spent decls.new) memo.new.slots.items) }
 {
     let place = cut.place();
     let code = cut.uleb()?;
@@ -114,7 +123,7 @@ fn read_entry<'a, 'f: 'a, D: Decls<'f>, L>(
             entry: None,
         });
     }
-    let (depth, entry) = read_coded(arena, decls, header, cut, depth, place, code, steps)?;
+    let (depth, entry) = read_coded(memo, decls, header, cut, depth, place, code, steps)?;
     Ok(Stepped {
         depth,
         entry: Some(entry),
@@ -167,13 +176,14 @@ fn read_area<'a, 'f: 'a, D: Decls<'f>, L>(
         → steps.new ≡ steps.old) }
 {
     let mut entries: Vec<Entry<'a>, &'a Bump> = Vec::new(arena);
+    let mut memo = DeclMemo::new(arena, cut.left());
     let mut depth = 0;
     let turns = cut.left();
     'entries: for _turn in 0..turns {
         if cut.left() == 0 {
             return Ok(into_bump_slice(entries));
         }
-        let stepped = match read_entry(arena, decls, header, cut, depth, steps) {
+        let stepped = match read_entry(&mut memo, decls, header, cut, depth, steps) {
             Ok(stepped) => stepped,
             Err(refusal) => return Err(refusal),
         };

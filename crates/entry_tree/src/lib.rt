@@ -13,6 +13,7 @@ mod entries;
 mod entry;
 mod first;
 mod laws;
+mod remembered;
 mod root;
 mod root_values;
 #[cfg(test)]

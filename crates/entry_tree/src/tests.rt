@@ -8,6 +8,7 @@ use abbrev_decl::{Scanner, Steps};
 use bumpalo::Bump;
 use dw_fields::{Code, Fault, Order};
 use elf_sections::Sections;
+use form_values::Raw;
 use std::alloc::Global;
 use std::test::Fail;
 use unit_headers::{Extra, UnitHeader, UnitKind, UnitRefusal};
@@ -20,10 +21,12 @@ const ABBREV: [u8; 22] = [
 ];
 
 /// From 12 on: a zero at depth 0, the root "a" with the line offsets 7 and 9, "b" below it, the end of
-/// its children, and "c" at depth 0.
-const INFO: [u8; 25] = [
+/// its children, and "c" at depth 0, up to 25; then zeros.
+const INFO: [u8; 96] = [
     0x15, 0, 0, 0, 0x05, 0, 0x01, 0x08, 0, 0, 0, 0, 0, 0x01, 0x61, 0, 7, 9, 0x02, 0x62, 0, 0, 0x02,
-    0x63, 0,
+    0x63, 0, 0, 0, 0, 0, 0, 0, 0, 0, 0, 0, 0, 0, 0, 0, 0, 0, 0, 0, 0, 0, 0, 0, 0, 0, 0, 0, 0, 0, 0,
+    0, 0, 0, 0, 0, 0, 0, 0, 0, 0, 0, 0, 0, 0, 0, 0, 0, 0, 0, 0, 0, 0, 0, 0, 0, 0, 0, 0, 0, 0, 0, 0,
+    0, 0, 0, 0, 0, 0, 0, 0, 0, 0,
 ];
 
 const HEADER: UnitHeader = UnitHeader {
@@ -39,8 +42,8 @@ const HEADER: UnitHeader = UnitHeader {
     extra: Extra::Nothing,
 };
 
-fn sections_of<'f>(info: &'f [u8; 25], declarations: &'f [u8; 22]) -> Sections<'f>
-    ensures info { length (sections_view result).info ≡ 25 }
+fn sections_of<'f>(info: &'f [u8; 96], declarations: &'f [u8; 22]) -> Sections<'f>
+    ensures info { length (sections_view result).info ≡ 96 }
     ensures declarations { length (sections_view result).«abbrev» ≡ 22 }
     ensures same { (sections_view result).«abbrev» ≡ declarations.entry.now }
     ensures short { AreShort (sections_view result) }
@@ -65,7 +68,7 @@ fn sections_of<'f>(info: &'f [u8; 25], declarations: &'f [u8; 22]) -> Sections<'
 /// The refusal of the unit with one byte of `.debug_info` changed.
 fn refusal_with(alloc: Global, place: usize, value: u8) -> Option<UnitRefusal> {
     let mut info = INFO;
-    if place < 25 {
+    if place < 96 {
         info[place] = value;
     }
     let abbrev = ABBREV;
@@ -104,6 +107,41 @@ fn depth_falls_at_a_zero_and_stays_0(rt: HostRuntime) -> Result<(), Fail> {
         assert_eq!(rt; entry.tag, tag);
         assert_eq!(rt; entry.attrs.len(), attrs);
     }
+    assert_eq!(rt; steps.count(), 5);
+    Ok(())
+}
+
+/// The unit up to 96 is long enough that the codes 1 and 2 are remembered: "c" has its declaration
+/// without a walk.
+#[test]
+fn a_declaration_is_walked_to_once(rt: HostRuntime) -> Result<(), Fail> {
+    let info = INFO;
+    let abbrev = ABBREV;
+    let sections = sections_of(&info, &abbrev);
+    let mut header = HEADER;
+    header.end = 96;
+    let arena = Bump::new(rt.alloc());
+    let mut scanner = Scanner::new(&abbrev);
+    let mut steps = Steps::start(());
+    let entries = match read_entries(&arena, &mut scanner, &header, &sections, &mut steps) {
+        Ok(entries) => entries,
+        Err(_) => return Err(Fail::from("refused")),
+    };
+    assert_eq!(rt; entries.len(), 3);
+    for (entry, (place, tag, attrs)) in entries
+        .iter()
+        .zip([(13, 0x11, 3), (18, 0x34, 2), (22, 0x34, 2)])
+    {
+        assert_eq!(rt; entry.place, place);
+        assert_eq!(rt; entry.tag, tag);
+        assert_eq!(rt; entry.attrs.len(), attrs);
+        for attr in entry.attrs.iter() {
+            if attr.form == 0x21 {
+                assert!(rt; matches!(attr.raw, Raw::Signed(-1)));
+            }
+        }
+    }
+    assert_eq!(rt; steps.count(), 3);
     Ok(())
 }
 

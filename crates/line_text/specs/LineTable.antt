@@ -1,5 +1,6 @@
 -- The text of a unit's line table, or the first refusal of its line program.
-use Rattle.std.specs.Prelude.{ℕ, List, [], ◌∷◌, ◌++◌, Option, Some, None, Ok, codes}
+use Rattle.std.specs.Prelude.{ℕ, List, [], ◌∷◌, ◌++◌, Option, Some, None, Result, Ok, codes}
+use Rattle.dw_fields.specs.declared.fault_code.Fault.{Fault}
 use Rattle.dw_fields.specs.Reading.{◌>>=◌}
 use Rattle.dw_text.specs.Added.{labelled}
 use Rattle.dw_text.specs.Numbers.{decimal, hex}
@@ -24,12 +25,22 @@ table_text unit offset program rows =
     head_line unit offset ++ directories_text program.directories ++ files_text program.files
     ++ rows_text rows
 
+-- a program's header and its rows
+abbrev pub TableView : Type 0
+TableView = LineView × List Row
+
+-- the header and the rows of the program at an offset, whose addresses have `size` bytes
+unfoldable pub table_of : SectionsView → ℕ → ℕ → Result TableView Fault
+table_of s size offset = do
+  program ← line_header_of s size offset
+  rows ← line_rows program.program program.lengths program.code
+  Ok (program, rows)
+
 -- the table at an offset
 unfoldable pub line_table_text : SectionsView → UnitHeader → ℕ → Text
 line_table_text s header offset = do
-  program ← line_header_of s header.address_size offset
-  rows ← line_rows program.program program.lengths program.code
-  Ok (table_text header.number offset program rows)
+  table ← table_of s header.address_size offset
+  Ok (table_text header.number offset table.0 table.1)
 
 -- the table of a unit, where it has a line offset
 abbrev pub lines_text : SectionsView → UnitHeader → Option ℕ → Text

@@ -1,19 +1,20 @@
 //! The text of a unit's line table (DWARF 5 section 6.2).
 
-ghost use Rattle.std.specs.Prelude.{◌≡◌};
+ghost use Rattle.std.specs.Prelude.{◌≡◌, Ok};
 ghost use Rattle.dw_fields.specs.Reading.{IsAddressSize};
 ghost use Rattle.dw_text.specs.Added.{Adds};
 ghost use Rattle.elf_sections.specs.Shapes.{sections_view};
 ghost use Rattle.unit_text.specs.Pieces.{Writes};
-ghost use Rattle.line_text.specs.LineTable.{head_line, line_table_text, lines_text, table_text};
+ghost use Rattle.line_text.specs.LineTable.{head_line, lines_text, table_text};
 
+use crate::line_tables::{LastTable, LineTables};
 use crate::names::{push_directories, push_files};
 use crate::row_text::push_rows;
 use dw_text::{push_decimal_after, push_hex_after, push_text};
 use elf_sections::Sections;
 use form_values::UnitFacts;
 use line_machine::Row;
-use line_programs::{LineHeader, PathTexts};
+use line_programs::LineHeader;
 use std::alloc::{AllocError, Global};
 use unit_headers::{UnitHeader, UnitRefusal};
 
@@ -34,56 +35,51 @@ pub fn write_lines(
     ensures { Writes result out.old.items out.new.items
         (lines_text (sections_view sections.now) header.now facts.now.line) }
 {
-    let mut texts = PathTexts::new(sections);
-    write_lines_with(alloc, &mut texts, header, facts, out)
+    let mut tables = LineTables::new(sections);
+    write_lines_with(alloc, &mut tables, header, facts, out)
 }
 
-/// Appends the same, with the finder of texts that the tables of the file's other units were
-/// written with: a run over all units goes over each section of texts twice at most.
+/// Appends the same, with the tables that were read for the file's other units: a program that the
+/// unit before named too is not read again, and a run over all units goes over each section of
+/// texts twice at most.
 ///
 /// # Errors
 /// Those of [`write_lines`]. `out` is then as it was.
 pub fn write_lines_with(
     alloc: Global,
-    texts: &mut PathTexts<'_>,
+    tables: &mut LineTables<'_>,
     header: &UnitHeader,
     facts: &UnitFacts,
     out: &mut Vec<u8>,
 ) -> Result<(), UnitRefusal>
     requires { IsAddressSize header.now.address_size }
     ensures text { Writes result out.old.items out.new.items
-        (lines_text texts.old header.now facts.now.line) }
-    ensures texts { texts.new ≡ texts.old }
+        (lines_text tables.old header.now facts.now.line) }
+    ensures tables { tables.new ≡ tables.old }
 {
     match facts.line {
-        Some(offset) => write_table(alloc, texts, header, offset, out),
+        Some(offset) => tables.write_table(alloc, header, offset, out),
         None => Ok(()),
     }
 }
 
-/// Appends the table whose program stands at an offset of `.debug_line`.
-#[tactic(auto, unfolding(crate::specs::LineTable::line_table_text))]
-fn write_table(
-    alloc: Global,
-    texts: &mut PathTexts<'_>,
+/// Appends the text of a table that was read, as that of a unit.
+pub(crate) fn append_table(
+    out: &mut Vec<u8>,
     header: &UnitHeader,
     offset: u64,
-    out: &mut Vec<u8>,
+    table: &LastTable<'_>,
 ) -> Result<(), UnitRefusal>
-    requires { IsAddressSize header.now.address_size }
-    ensures text { Writes result out.old.items out.new.items
-        (line_table_text texts.old header.now offset) }
-    ensures texts { texts.new ≡ texts.old }
+    ensures { Writes result out.old.items out.new.items
+        (Ok (table_text header.now.number offset table.now.program table.now.rows.items)) }
 {
-    let program = LineHeader::read_with(alloc, texts, header, offset)?;
-    let rows = program.rows(alloc)?;
     let before = out.len();
     match push_table(
         out,
         u64::from(header.number),
         offset,
-        &program,
-        rows.as_slice(),
+        &table.program,
+        table.rows.as_slice(),
     ) {
         Ok(()) => Ok(()),
         Err(_) => {

@@ -1,3 +1,4 @@
 pub mod Loops
+pub mod ListContexts
 pub mod TableLaws
 pub mod TableTileLaws

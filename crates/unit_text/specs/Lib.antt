@@ -6,5 +6,6 @@ pub mod Declarations
 pub mod Tables
 pub mod TableTiles
 pub mod Lists
+pub mod LastLists
 pub mod Values
 pub mod Units

@@ -11,6 +11,7 @@ ghost use Rattle.unit_text.specs.Pieces.{Puts, Writes, texts_of};
 ghost use Rattle.unit_text.specs.UnitView.{unit_of, unit_view};
 ghost use Rattle.unit_text.specs.Lists.{is_range_list, is_location_list, is_location_attribute, list_place, range_text, range_line, range_list_text, location_list_text, bounds_text, expression_text, location_line, ranges_title, locations_title, ranges_text, locations_text, attr_lists, entry_lists, lists_text};
 
+use crate::last_lists::LastLists;
 use crate::pieces::{as_put, keep_whole};
 use crate::unit::Unit;
 use dw_fields::Fault;
@@ -20,7 +21,7 @@ use dw_text::{push_decimal_after, push_hex_after, push_hex_bytes_after, push_tex
 use elf_sections::Sections;
 use entry_tree::{Attr, Entry};
 use form_values::{Raw, UnitFacts, refused_at, resolve_list};
-use range_lists::{Location, Range, read_locations, read_ranges};
+use range_lists::{Location, Range};
 use std::alloc::{AllocError, Global};
 use unit_headers::{UnitHeader, UnitRefusal};
 
@@ -31,7 +32,6 @@ use unit_headers::{UnitHeader, UnitRefusal};
 /// # Errors
 /// The first refusal of a list: at the attribute where its value can't be resolved, otherwise where the
 /// list can't be read. Want of memory may come at any time. `out` is then as it was.
-#[tactic(auto, unfolding(crate::specs::Lists::lists_text))]
 pub fn write_lists(
     alloc: Global,
     sections: &Sections<'_>,
@@ -45,28 +45,56 @@ pub fn write_lists(
         (lists_text (unit_of (sections_view sections.now) header.now facts.now)
         (map entry_view entries.now)) }
 {
+    let mut lists = LastLists::new(sections);
+    write_lists_with(alloc, &mut lists, header, facts, entries, out)
+}
+
+/// Appends the same, with the lists that were read for the file's other units: a list that the
+/// attribute before named too is not read again, where the units' bases and lowest addresses are the
+/// same.
+///
+/// # Errors
+/// Those of [`write_lists`]. `out` is then as it was.
+#[tactic(auto, unfolding(crate::specs::Lists::lists_text))]
+pub fn write_lists_with(
+    alloc: Global,
+    lists: &mut LastLists<'_>,
+    header: &UnitHeader,
+    facts: &UnitFacts,
+    entries: &[Entry<'_>],
+    out: &mut Vec<u8>,
+) -> Result<(), UnitRefusal>
+    requires { IsAddressSize header.now.address_size }
+    ensures text { Writes result out.old.items out.new.items
+        (lists_text (unit_of lists.old header.now facts.now) (map entry_view entries.now)) }
+    ensures lists { lists.new ≡ lists.old }
+{
+    let sections = lists.sections();
     let unit = Unit {
-        sections,
+        sections: &sections,
         header,
         facts,
     };
     let before = out.len();
-    let done = put_lists(out, alloc, &unit, entries);
+    let done = put_lists(out, alloc, lists, &unit, entries);
     keep_whole(out, before, done)
 }
 
 fn put_lists(
     out: &mut Vec<u8>,
     alloc: Global,
+    lists: &mut LastLists<'_>,
     unit: &Unit<'_, '_>,
     entries: &[Entry<'_>],
 ) -> Result<(), UnitRefusal>
-    requires { IsAddressSize unit.now.header.now.address_size }
-    ensures { Puts result out.old.items out.new.items
+    requires size { IsAddressSize unit.now.header.now.address_size }
+    requires sections { lists.old ≡ sections_view unit.now.sections.now }
+    ensures text { Puts result out.old.items out.new.items
         (texts_of (entry_lists (unit_view unit.now)) (map entry_view entries.now)) }
+    ensures same { lists.new ≡ lists.old }
 {
     for entry in entries {
-        match put_entry_lists(out, alloc, unit, entry) {
+        match put_entry_lists(out, alloc, lists, unit, entry) {
             Ok(()) => {}
             Err(refusal) => return Err(refusal),
         }
@@ -78,29 +106,35 @@ fn put_lists(
 fn put_entry_lists(
     out: &mut Vec<u8>,
     alloc: Global,
+    lists: &mut LastLists<'_>,
     unit: &Unit<'_, '_>,
     entry: &Entry<'_>,
 ) -> Result<(), UnitRefusal>
-    requires { IsAddressSize unit.now.header.now.address_size }
-    ensures { Puts result out.old.items out.new.items
+    requires size { IsAddressSize unit.now.header.now.address_size }
+    requires sections { lists.old ≡ sections_view unit.now.sections.now }
+    ensures text { Puts result out.old.items out.new.items
         (entry_lists (unit_view unit.now) (entry_view entry.now)) }
+    ensures same { lists.new ≡ lists.old }
 {
-    put_attrs_lists(out, alloc, unit, entry.place, entry.attrs)
+    put_attrs_lists(out, alloc, lists, unit, entry.place, entry.attrs)
 }
 
 fn put_attrs_lists(
     out: &mut Vec<u8>,
     alloc: Global,
+    lists: &mut LastLists<'_>,
     unit: &Unit<'_, '_>,
     place: u64,
     attrs: &[Attr<'_>],
 ) -> Result<(), UnitRefusal>
-    requires { IsAddressSize unit.now.header.now.address_size }
-    ensures { Puts result out.old.items out.new.items
+    requires size { IsAddressSize unit.now.header.now.address_size }
+    requires sections { lists.old ≡ sections_view unit.now.sections.now }
+    ensures text { Puts result out.old.items out.new.items
         (texts_of (attr_lists (unit_view unit.now) place) (map attr_view attrs.now)) }
+    ensures same { lists.new ≡ lists.old }
 {
     for attr in attrs {
-        match put_list(out, alloc, unit, place, attr) {
+        match put_list(out, alloc, lists, unit, place, attr) {
             Ok(()) => {}
             Err(refusal) => return Err(refusal),
         }
@@ -113,18 +147,21 @@ fn put_attrs_lists(
 fn put_list(
     out: &mut Vec<u8>,
     alloc: Global,
+    lists: &mut LastLists<'_>,
     unit: &Unit<'_, '_>,
     place: u64,
     attr: &Attr<'_>,
 ) -> Result<(), UnitRefusal>
-    requires { IsAddressSize unit.now.header.now.address_size }
-    ensures { Puts result out.old.items out.new.items
+    requires size { IsAddressSize unit.now.header.now.address_size }
+    requires sections { lists.old ≡ sections_view unit.now.sections.now }
+    ensures text { Puts result out.old.items out.new.items
         (attr_lists (unit_view unit.now) place (attr_view attr.now)) }
+    ensures same { lists.new ≡ lists.old }
 {
     if attr.name == attribute::RANGES && is_range_list(&attr.raw) {
-        put_ranges(out, alloc, unit, place, attr)
+        put_ranges(out, alloc, lists, unit, place, attr)
     } else if is_location_attribute(attr.name) && is_location_list(&attr.raw) {
-        put_locations(out, alloc, unit, place, attr)
+        put_locations(out, alloc, lists, unit, place, attr)
     } else {
         Ok(())
     }
@@ -177,24 +214,29 @@ fn place_of_list(unit: &Unit<'_, '_>, attr: &Attr<'_>) -> Result<u64, Fault>
 fn put_ranges(
     out: &mut Vec<u8>,
     alloc: Global,
+    lists: &mut LastLists<'_>,
     unit: &Unit<'_, '_>,
     place: u64,
     attr: &Attr<'_>,
 ) -> Result<(), UnitRefusal>
     requires size { IsAddressSize unit.now.header.now.address_size }
     requires kind { IsTrue (is_range_list (raw_view attr.now.raw)) }
-    ensures { Puts result out.old.items out.new.items
+    requires sections { lists.old ≡ sections_view unit.now.sections.now }
+    ensures text { Puts result out.old.items out.new.items
         (ranges_text (unit_view unit.now) place (attr_view attr.now)) }
+    ensures same { lists.new ≡ lists.old }
 {
     let offset = match place_of_list(unit, attr) {
         Ok(offset) => offset,
         Err(fault) => return Err(UnitRefusal::Refused(fault)),
     };
-    let ranges = match read_ranges(alloc, unit.sections, unit.header, unit.facts, offset) {
+    let ranges = match lists.take_ranges(alloc, unit.header, unit.facts, offset) {
         Ok(ranges) => ranges,
         Err(refusal) => return Err(refusal),
     };
-    put_range_list(out, place, ranges.as_slice())
+    let done = put_range_list(out, place, ranges.items.as_slice());
+    lists.keep_ranges(ranges);
+    done
 }
 
 #[tactic(auto, unfolding(crate::specs::Lists::range_list_text, crate::specs::Pieces::joined))]
@@ -256,24 +298,29 @@ fn push_range(out: &mut Vec<u8>, range: &Range) -> Result<(), AllocError>
 fn put_locations(
     out: &mut Vec<u8>,
     alloc: Global,
+    lists: &mut LastLists<'_>,
     unit: &Unit<'_, '_>,
     place: u64,
     attr: &Attr<'_>,
 ) -> Result<(), UnitRefusal>
     requires size { IsAddressSize unit.now.header.now.address_size }
     requires kind { IsTrue (is_location_list (raw_view attr.now.raw)) }
-    ensures { Puts result out.old.items out.new.items
+    requires sections { lists.old ≡ sections_view unit.now.sections.now }
+    ensures text { Puts result out.old.items out.new.items
         (locations_text (unit_view unit.now) place (attr_view attr.now)) }
+    ensures same { lists.new ≡ lists.old }
 {
     let offset = match place_of_list(unit, attr) {
         Ok(offset) => offset,
         Err(fault) => return Err(UnitRefusal::Refused(fault)),
     };
-    let locations = match read_locations(alloc, unit.sections, unit.header, unit.facts, offset) {
+    let locations = match lists.take_locations(alloc, unit.header, unit.facts, offset) {
         Ok(locations) => locations,
         Err(refusal) => return Err(refusal),
     };
-    put_location_list(out, place, attr.name, locations.as_slice())
+    let done = put_location_list(out, place, attr.name, locations.items.as_slice());
+    lists.keep_locations(locations);
+    done
 }
 
 #[tactic(auto, unfolding(crate::specs::Lists::location_list_text, crate::specs::Pieces::joined))]

@@ -1,10 +1,10 @@
-use Rattle.std.proofs.Common.{◌≡◌, ◌<◌, ◌^◌, length, Option, Some, None, option_map, IfSome, List, ℕ, Bor, refl}
+use Rattle.std.proofs.Common.{◌≡◌, ◌<◌, ◌^◌, length, Option, Some, None, option_map, IfSome, List, ℕ, Bor, arith, refl}
 use Rattle.elf_sections.specs.Shapes.{SectionsView, sections_of}
 use Rattle.elf_sections.proofs.debug.debug_sections_among.Goals as goal
 
-seen_short : (r : Option (Bor (List ℕ))) → IfSome r (λ b. length b.now < 2 ^ 32) → IfSome (option_map (λ b. b.now) r) (λ b. length b < 2 ^ 32)
+seen_short : (r : Option (Bor (List ℕ))) → IfSome r (λ b. length b.now < 2 ^ 31) → IfSome (option_map (λ b. b.now) r) (λ b. length b < 2 ^ 32)
 seen_short None h = h
-seen_short (Some b) h = h
+seen_short (Some b) h = omega (arith, h)
 
 same_view : (s t : SectionsView) → s.order ≡ t.order → s.info ≡ t.info → s.«abbrev» ≡ t.«abbrev» → s.text ≡ t.text → s.line_text ≡ t.line_text
     → s.text_offsets ≡ t.text_offsets → s.address ≡ t.address → s.range_lists ≡ t.range_lists → s.location_lists ≡ t.location_lists
@@ -34,8 +34,8 @@ returns-clause-sections c = same_view _ _ refl c.first_named_or_empty.ensures.by
 
 pub returns-clause-short : goal.returns-clause-short
 returns-clause-short c = record {
-  info = c.first_named_or_empty.ensures.short;
-  «abbrev» = c.first_named_or_empty-2.ensures.short;
+  info = omega (arith, c.first_named_or_empty.ensures.short);
+  «abbrev» = omega (arith, c.first_named_or_empty-2.ensures.short);
   text = seen_short _ c.first_named.ensures.short;
   line_text = seen_short _ c.first_named-2.ensures.short;
   text_offsets = seen_short _ c.first_named-3.ensures.short;

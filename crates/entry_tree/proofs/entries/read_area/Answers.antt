@@ -73,6 +73,7 @@ entries-preserved g c =
           step.seen step.spent c.entries.invariant.noted c.in-Ok.ensures.noted;
       known = known_next c.args.header.now.«abbrev» (map entry_view c.entries.entries.items) (stepped_entries c.in-Ok.stepped) _ _ _ _ _ _ c.in-Ok-add_entry.ensures
           left.seen c.entries.invariant.known c.in-Ok.ensures.known;
+      remembers = c.in-Ok.ensures.remembers;
     }
 
 pub returns-clause-entries : goal.returns-clause-entries

@@ -5,6 +5,7 @@ use Rattle.form_values.specs.View.{widths_of}
 use Rattle.entry_tree.specs.Views.{entry_view}
 use Rattle.entry_tree.specs.Entries.{entry_at}
 use Rattle.entry_tree.specs.Keys.{GainsOnly, IsFoundKey, IsKeyAmong, KeysKnown, KeysNoted}
+use Rattle.entry_tree.specs.Remembered.{Remembers}
 use Rattle.entry_tree.proofs.entries.read_area.Given as goal
 
 abbrev pub invariant-entries : goal.invariant-entries
@@ -19,4 +20,5 @@ invariant-entries g l = record {
   keys : GainsOnly (IsKeyAmong l.header.«abbrev» (map entry_view l.entries.items)) (g.D.Decls.placed l.fn.decls) (g.D.Decls.placed l.decls);
   noted : KeysNoted (g.D.Decls.seen l.decls) (g.D.Decls.spent l.decls) l.header.«abbrev» (map entry_view l.entries.items);
   known : KeysKnown (g.D.Decls.seen l.fn.decls) l.header.«abbrev» (map entry_view l.entries.items) → l.steps ≡ l.fn.steps;
+  remembers : Remembers (g.D.Decls.section l.decls) l.header.«abbrev» (g.D.Decls.seen l.decls) (g.D.Decls.spent l.decls) l.memo.slots.items;
 }

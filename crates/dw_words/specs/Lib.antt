@@ -1,0 +1,4 @@
+pub mod Numbers
+pub mod GivenWords
+pub mod RefusalMessages
+pub mod Parser

@@ -1,0 +1,4 @@
+pub mod Words
+pub mod Scanned
+pub mod Handles
+pub mod SourceLaws

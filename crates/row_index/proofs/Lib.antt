@@ -1,0 +1,4 @@
+pub mod Bisected
+pub mod Cuts
+pub mod Leads
+pub mod Splitting

@@ -1,0 +1,3 @@
+pub mod Indexed
+pub mod Rows
+pub mod Runs

@@ -13,4 +13,6 @@ mod files;
 #[cfg(test)]
 mod readers;
 #[cfg(test)]
+mod threads;
+#[cfg(test)]
 mod units;

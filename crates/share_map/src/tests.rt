@@ -42,7 +42,11 @@ fn fill<R: Abort>(rt: &R, table: &Table<AnyPair>, pass: &mut Pass<AnyPair>, from
     ensures rest { AtRest pass.new.knows }
 {
     for key in from..end {
-        assert_eq!(rt; table.insert(pass, key, key + 100), Ok(Kept::Placed), "key {key}");
+        assert_eq!(rt;
+            table.insert(pass, key, key + 100),
+            Ok(Kept::Placed),
+            "key {key}"
+        );
     }
 }
 

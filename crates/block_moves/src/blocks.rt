@@ -32,7 +32,12 @@ fn key_or_seal<F: Facts>(cells: &Cells<F>, pass: &mut Pass<F>, cell: Cell) -> Op
 }
 
 /// The value of a cell with a key, or that it has none and never will: an unset value word is closed.
-fn value_or_seal<F: Facts>(cells: &Cells<F>, pass: &mut Pass<F>, cell: Cell, key: u64) -> Option<u64>
+fn value_or_seal<F: Facts>(
+    cells: &Cells<F>,
+    pass: &mut Pass<F>,
+    cell: Cell,
+    key: u64,
+) -> Option<u64>
     requires of { IsOf cells.now pass.old }
     requires cell { IsCell cells.now.layout cell.generation cell.index }
     requires below { cell.generation < cells.now.layout.last }
@@ -99,7 +104,12 @@ fn move_cell<F: Facts>(cells: &Cells<F>, pass: &mut Pass<F>, cell: Cell) -> bool
 
 /// Moves a block of the current generation, and marks it as moved. It answers false where there is no room for one of its
 /// pairs.
-pub fn move_block<F: Facts>(cells: &Cells<F>, pass: &mut Pass<F>, generation: u32, block: u64) -> bool
+pub fn move_block<F: Facts>(
+    cells: &Cells<F>,
+    pass: &mut Pass<F>,
+    generation: u32,
+    block: u64,
+) -> bool
     requires of { IsOf cells.now pass.old }
     requires block { IsBlock cells.now.layout generation block }
     requires below { generation < cells.now.layout.last }

@@ -47,7 +47,12 @@ fn move_taken<F: Facts>(cells: &Cells<F>, pass: &mut Pass<F>, generation: u32, b
 }
 
 /// Moves a block, unless it is moved already.
-fn move_unless_done<F: Facts>(cells: &Cells<F>, pass: &mut Pass<F>, generation: u32, block: u64) -> bool
+fn move_unless_done<F: Facts>(
+    cells: &Cells<F>,
+    pass: &mut Pass<F>,
+    generation: u32,
+    block: u64,
+) -> bool
     requires of { IsOf cells.now pass.old }
     requires block { IsBlock cells.now.layout generation block }
     requires below { generation < cells.now.layout.last }

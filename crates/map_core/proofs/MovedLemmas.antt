@@ -13,12 +13,15 @@ module _ (l : Layout) (C D : ℕ → ℕ) (keeps : Keeps C D) where
             (λ (sealed : C (key_place l g i) ≡ greatest). inl (keeps_value C D keeps (key_place l g i) greatest (omega arith) sealed))
             (λ (key : IsWord (C (key_place l g i)) × ((C (value_place l g i) ≡ greatest) ⊎ ((h : ℕ) × (g < h) × IsPublished l C h (C (key_place l g i)) (C (value_place l g i))))).
             let k = keeps (key_place l g i) key.0.0 in
-            inr (subst IsWord (sym k) key.0, ⊎_elim
-            (λ (closed : C (value_place l g i) ≡ greatest). inl (keeps_value C D keeps (value_place l g i) greatest (omega arith) closed))
-            (λ (up : (h : ℕ) × (g < h) × IsPublished l C h (C (key_place l g i)) (C (value_place l g i))).
-            let v = keeps (value_place l g i) up.2.value.0 in
-            inr (up.0, up.1, subst (λ (p : ℕ × ℕ). IsPublished l D up.0 p.0 p.1) (λ t. (sym k t, sym v t)) (published_on l C D keeps up.0 (C (key_place l g i)) (C (value_place l g i)) up.2)))
-            key.1))
+            inr (
+              subst IsWord (sym k) key.0,
+              ⊎_elim
+                  (λ (closed : C (value_place l g i) ≡ greatest). inl (keeps_value C D keeps (value_place l g i) greatest (omega arith) closed))
+                  (λ (up : (h : ℕ) × (g < h) × IsPublished l C h (C (key_place l g i)) (C (value_place l g i))).
+                  let v = keeps (value_place l g i) up.2.value.0 in
+                  inr (up.0, up.1, subst (λ (p : ℕ × ℕ). IsPublished l D up.0 p.0 p.1) (λ t. (sym k t, sym v t)) (published_on l C D keeps up.0 (C (key_place l g i)) (C (value_place l g i)) up.2)))
+                  key.1,
+            ))
             m.how;
       }
 

@@ -4,6 +4,9 @@
 //! has a `Pass`, which a first caller gets with the table and from which others are split. Every call answers as a
 //! plain map that keeps the first value of each key, at one point of one history of successful inserts, whatever other
 //! threads do meanwhile (`map_core`'s `specs/Calls.antt`). No call but `Table::new` takes memory, and none waits.
+//!
+//! A table begins with 64 cells, and moves to twice as many whenever three quarters of them are taken. An insert that
+//! placed its entry helps with a move that is due (`block_moves`).
 #![tactic(auto)]
 
 mod answers;

@@ -5,6 +5,7 @@ ghost use Rattle.map_cells.specs.Seen.{IsOf};
 
 use crate::answers::{Kept, Shape};
 use crate::table::Table;
+use block_moves::{Helped, help};
 use map_cells::{AnyPair, Cell, KeyWord, Pass};
 use std::process::Abort;
 use std::test::Fail;
@@ -41,7 +42,11 @@ fn fill<R: Abort>(rt: &R, table: &Table<AnyPair>, pass: &mut Pass<AnyPair>, from
     ensures rest { AtRest pass.new.knows }
 {
     for key in from..end {
-        assert_eq!(rt; table.insert(pass, key, key + 100), Ok(Kept::Placed), "key {key}");
+        assert_eq!(rt;
+            table.insert(pass, key, key + 100),
+            Ok(Kept::Placed),
+            "key {key}"
+        );
     }
 }
 
@@ -87,5 +92,16 @@ fn a_pass_that_stops_within_a_block_holds_nobody_up(rt: HostRuntime) -> Result<(
     assert_eq!(rt; seal_cells(&table, &mut b, 32, 64), 0);
     check_found(&rt, &table, &mut a, 49);
     check_found(&rt, &table, &mut b, 49);
+    Ok(())
+}
+
+#[test]
+fn no_move_is_due_of_47_entries(rt: HostRuntime) -> Result<(), Fail> {
+    let (table, mut pass) = Table::new(rt.alloc(), 1000, 1, &AnyPair)?;
+    fill(&rt, &table, &mut pass, 1, 48);
+    assert_eq!(rt; help(&table.cells, &mut pass), Helped::Nothing);
+    fill(&rt, &table, &mut pass, 48, 49);
+    assert_eq!(rt; help(&table.cells, &mut pass), Helped::Nothing);
+    assert_eq!(rt; table.shape(&mut pass).generation, 1);
     Ok(())
 }

@@ -15,7 +15,8 @@ use std::alloc::{AllocError, Global};
 pub(crate) fn small_cells(alloc: Global) -> Result<(Cells<AnyPair>, Pass<AnyPair>), AllocError>
     ensures { IfOk result (λ r. IsSmall r.0 r.1) }
 {
-    Cells::new(alloc, Layout::of(64, 2), 2, &AnyPair)
+    let (cells, pass) = Cells::new(alloc, Layout::of(64, 2), 2, &AnyPair)?;
+    Ok((cells, pass))
 }
 
 /// The cell of generation 0 in which the walk of a key begins: the top bits of the key's product with 2^64 divided by the

@@ -10,6 +10,7 @@
 mod chains;
 #[cfg(test)]
 mod four_threads;
+#[cfg(test)]
 mod growth;
 #[cfg(test)]
 mod plain_map;

@@ -8,3 +8,4 @@ pub mod GivenSteps
 pub mod WordsRead
 pub mod Answered
 pub mod Settled
+pub mod AddressLemmas

@@ -146,3 +146,109 @@ fn refusals_as_texts(rt: HostRuntime) -> Result<(), Fail> {
     assert_eq!(rt; text.as_str(), "words not understood, out of memory");
     Ok(())
 }
+
+/// What a command line asks for, as a text.
+fn request_text(alloc: Global, words: &[String]) -> Result<String, AllocError> {
+    match read_words(alloc, words) {
+        Ok(Request::File { command, file }) => format!(in alloc; "{command:?} [{file}]"),
+        Ok(
+            Request::Dump {
+                file,
+                workers,
+                stats,
+            },
+        ) => format!(in alloc; "dump [{file}] {workers} {stats}"),
+        Ok(Request::Addresses { file, addresses }) => {
+            let mut text = format!(in alloc; "addr [{file}]")?;
+            for address in &addresses {
+                let one = format!(in alloc; " {address}")?;
+                text.push_str(one.as_str())?;
+            }
+            Ok(text)
+        }
+        Ok(Request::Query { visitor, file }) => format!(in alloc; "query [{visitor}] [{file}]"),
+        Ok(Request::Exercise { units, workers }) => {
+            format!(in alloc; "exercise {units} {workers}")
+        }
+        Err(refusal) => format!(in alloc; "{refusal}"),
+    }
+}
+
+/// Command lines, and what they ask for.
+const REQUESTS: [(&str, &str); 65] = [
+    ("", NONE),
+    ("~", NONE),
+    ("F", NONE),
+    ("units", NONE),
+    ("units F", "Units [F]"),
+    ("units F G", NONE),
+    ("units -", "Units [-]"),
+    ("units ~", "Units []"),
+    ("units -F", NONE),
+    ("units -- -F", "Units [-F]"),
+    ("units -- --", "Units [--]"),
+    ("units --", NONE),
+    ("units --stats F", NONE),
+    ("units --workers 1 F", NONE),
+    ("units --workers=1 F", NONE),
+    ("unit F", NONE),
+    ("Units F", NONE),
+    ("sections F", "Sections [F]"),
+    ("abbrev F", "Abbrev [F]"),
+    ("lines F", "Lines [F]"),
+    ("ranges F", "Ranges [F]"),
+    ("ranges F --stats", NONE),
+    ("dump F", "dump [F] 4 false"),
+    ("dump --workers 64 --stats F", "dump [F] 64 true"),
+    ("dump F --stats --workers=1", "dump [F] 1 true"),
+    ("dump --stats F --workers 2", "dump [F] 2 true"),
+    ("dump --workers 008 F", "dump [F] 8 false"),
+    ("dump -- --stats", "dump [--stats] 4 false"),
+    ("dump", NONE),
+    ("dump --stats", NONE),
+    ("dump --workers 4", NONE),
+    ("dump --workers 65 F", NONE),
+    ("dump --workers 0 F", NONE),
+    ("dump --stats --stats F", NONE),
+    ("dump F G", NONE),
+    ("dump --help F", NONE),
+    ("addr F", NONE),
+    ("addr", NONE),
+    ("addr F 0x10 16 0", "addr [F] 16 16 0"),
+    ("addr F 0xFf", "addr [F] 255"),
+    ("addr F -- 7", "addr [F] 7"),
+    ("addr F 18446744073709551616", NONE),
+    ("addr F 1 x", NONE),
+    ("addr F x 1", NONE),
+    ("addr F -1", NONE),
+    ("addr --inlines F 1", NONE),
+    ("addr --stats F 1", NONE),
+    ("addr --workers 1 F 1", NONE),
+    ("query functions F", "query [functions] [F]"),
+    ("query -- -a F", "query [-a] [F]"),
+    ("query F", NONE),
+    ("query a F G", NONE),
+    ("query --workers 2 a F", NONE),
+    ("exercise 1", "exercise 1 4"),
+    ("exercise 0001 --workers 64", "exercise 1 64"),
+    ("exercise --workers=3 9999", "exercise 9999 3"),
+    ("exercise 0", NONE),
+    ("exercise 10000", NONE),
+    ("exercise 0x1", NONE),
+    ("exercise --stats 1", NONE),
+    ("exercise", NONE),
+    ("exercise 1 2", NONE),
+    ("-- units F", NONE),
+    ("--stats dump F", NONE),
+    ("--help", NONE),
+];
+
+#[test]
+fn command_lines(rt: HostRuntime) -> Result<(), Fail> {
+    for (line, wanted) in REQUESTS {
+        let words = words_of(rt.alloc(), line)?;
+        let text = request_text(rt.alloc(), words.as_slice())?;
+        assert_eq!(rt; text.as_str(), wanted);
+    }
+    Ok(())
+}

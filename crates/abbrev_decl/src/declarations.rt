@@ -6,7 +6,7 @@ ghost use Rattle.abbrev_decl.specs.Pairs.{PairsWereRead, TakesPair, left_pairs, 
 ghost use Rattle.abbrev_decl.specs.Declarations.{EndsInside, HeadInside, Stands, StandsAs, at_head, declaration_at, head_at};
 
 use crate::counter::Steps;
-use crate::pairs::{AttrSpec, count_pairs, in_table, next_pair, skip_pairs, whole};
+use crate::pairs::{AttrSpec, count_pairs, in_table, next_pair, read_number, skip_pairs, whole};
 use dw_fields::{Code, Fault};
 use std::marker::Model;
 
@@ -158,6 +158,7 @@ impl<'f> Attrs<'f> {
     }
 
     /// The next pair; `None` behind the last one.
+    #[inline(always)]
     pub fn next(&mut self) -> Option<AttrSpec>
         ensures { TakesPair result self.old self.new }
     {
@@ -181,19 +182,19 @@ impl<'f> Attrs<'f> {
 }
 
 /// Reads the front of the declaration at `place`; `None` is a code 0.
+#[inline(always)]
 #[tactic(auto, unfolding(crate::specs::Declarations::head_at))]
 fn read_head(section: &[u8], place: u64) -> Result<Option<Head>, Fault>
     requires { place ≤ length section.now }
     ensures answer { result ≡ head_at section.now place }
     ensures inside { HeadInside place (length section.now) result }
 {
-    let mut cut = whole(section, place);
-    let code = in_table(cut.uleb())?;
+    let (code, behind) = read_number(section, place)?;
     if code == 0 {
         return Ok(None);
     }
-    let tag = in_table(cut.uleb())?;
-    let byte = cut.place();
+    let (tag, byte) = read_number(section, behind)?;
+    let mut cut = whole(section, byte);
     let children = in_table(cut.u8())?;
     if 1 < children {
         return Err(Fault::at(Code::ChildrenByte, byte));
@@ -214,6 +215,7 @@ fn read_head(section: &[u8], place: u64) -> Result<Option<Head>, Fault>
 /// - `DeclTruncated` at a field that passes the section's end.
 /// - `LebTooLarge` at a LEB128 of more than 64 bits.
 /// - `ChildrenByte` at a children byte above 1.
+#[inline(always)]
 #[tactic(auto, unfolding(crate::specs::Declarations::declaration_at))]
 pub fn read_decl<'f, L>(
     section: &'f [u8],
@@ -235,6 +237,7 @@ pub fn read_decl<'f, L>(
 }
 
 /// The declaration that begins with a front.
+#[inline(always)]
 fn at_head<'f>(section: &'f [u8], place: u64, head: Head) -> Decl<'f>
     requires { PairsWereRead section.now head.pairs }
     ensures { result ≡ at_head place head (pairs_of (pairs_at section.entry.now head.pairs)) }

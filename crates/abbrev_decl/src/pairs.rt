@@ -1,7 +1,7 @@
 //! The pairs of a declaration: which attributes an entry has, and in which forms.
 
-ghost use Rattle.std.specs.Prelude.{◌≡◌, ◌≤◌, ◌+◌, length, IfOk, IfSome, OnOk};
-ghost use Rattle.dw_fields.specs.Reading.{Moves, Onward, Reads};
+ghost use Rattle.std.specs.Prelude.{◌≡◌, ◌≤◌, ◌+◌, length, IfOk, IfSome};
+ghost use Rattle.dw_fields.specs.Reading.{uleb_at};
 ghost use Rattle.abbrev_decl.specs.Pairs.{EndAtFirstZeroPair, GivesPair, PairsWereRead, Skips, from, implicit_at, in_table, pair_at, pairs_at, pairs_of, short_pair as pair_of_bytes};
 
 use dw_fields::{Code, Cut, Fault, Order, renamed};
@@ -39,51 +39,98 @@ pub(crate) fn in_table<T>(read: Result<T, Fault>) -> Result<T, Fault>
     renamed(read, Code::Truncated, Code::DeclTruncated)
 }
 
-/// The number behind a form: that of implicit_const, and 0 of any other form, which has none.
+/// A ULEB128 number of one byte or two, and the place behind it; `None` where it may be longer.
+#[inline(always)]
+fn short_number(section: &[u8], place: u64) -> Option<(u64, u64)>
+    requires { place ≤ length section.now }
+    ensures { IfSome result (λ read.
+        (uleb_at (from section.now place) ≡ Ok read)
+        × (place + 1 ≤ read.1) × (read.1 ≤ length section.now)) }
+{
+    match &section[place as usize..] {
+        [first, second, ..] => {
+            if *first < 128 {
+                Some((u64::from(*first), place + 1))
+            } else if *second < 128 {
+                Some((
+                    u64::from(*first % 128) + 128 * u64::from(*second),
+                    place + 2,
+                ))
+            } else {
+                None
+            }
+        }
+        _ => None,
+    }
+}
+
+/// A ULEB128 number of any length at a place, and the place behind it.
+fn read_long_number(section: &[u8], place: u64) -> Result<(u64, u64), Fault>
+    requires { place ≤ length section.now }
+    ensures answer { result ≡ in_table (uleb_at (from section.now place)) }
+    ensures inside { IfOk result (λ read. (place + 1 ≤ read.1) × (read.1 ≤ length section.now)) }
+{
+    let mut cut = whole(section, place);
+    let number = in_table(cut.uleb())?;
+    Ok((number, cut.place()))
+}
+
+/// A ULEB128 number at a place, and the place behind it.
+#[inline(always)]
+pub(crate) fn read_number(section: &[u8], place: u64) -> Result<(u64, u64), Fault>
+    requires { place ≤ length section.now }
+    ensures answer { result ≡ in_table (uleb_at (from section.now place)) }
+    ensures inside { IfOk result (λ read. (place + 1 ≤ read.1) × (read.1 ≤ length section.now)) }
+{
+    match short_number(section, place) {
+        Some(read) => Ok(read),
+        None => read_long_number(section, place),
+    }
+}
+
+/// The number behind a form and the place behind it: that of implicit_const, and 0 of any other
+/// form, which has none.
+#[inline]
 #[tactic(auto, unfolding(crate::specs::Pairs::implicit_at))]
-fn read_implicit(cut: &mut Cut<'_>, form: u64) -> Result<i64, Fault>
-    ensures field { Reads (λ x. x) result (implicit_at form) cut.old cut.new }
-    ensures onward { OnOk result (Onward cut.old cut.new) }
+fn read_implicit(section: &[u8], place: u64, form: u64) -> Result<(i64, u64), Fault>
+    requires { place ≤ length section.now }
+    ensures answer { result ≡ implicit_at form (from section.now place) }
+    ensures inside { IfOk result (λ read. (place ≤ read.1) × (read.1 ≤ length section.now)) }
 {
-    if form == form::IMPLICIT_CONST {
-        in_table(cut.sleb())
-    } else {
-        Ok(0)
+    if form != form::IMPLICIT_CONST {
+        return Ok((0, place));
     }
+    let mut cut = whole(section, place);
+    let implicit = in_table(cut.sleb())?;
+    Ok((implicit, cut.place()))
 }
 
-/// The pair at a cut; `None` is the pair 0, 0.
+/// The pair at a place and the place behind it, number by number.
+#[inline(always)]
 #[tactic(auto, unfolding(crate::specs::Pairs::pair_at))]
-fn read_any_pair(cut: &mut Cut<'_>) -> Result<Option<AttrSpec>, Fault>
-    ensures field { Reads (λ x. x) result pair_at cut.old cut.new }
-    ensures moves { OnOk result (Moves 2 cut.old cut.new) }
-{
-    let name = in_table(cut.uleb())?;
-    let form = in_table(cut.uleb())?;
-    if name == 0 && form == 0 {
-        return Ok(None);
-    }
-    let implicit = read_implicit(cut, form)?;
-    Ok(Some(AttrSpec {
-        name,
-        form,
-        implicit,
-    }))
-}
-
-/// The same at a place, with the place behind it.
 fn read_long_pair(section: &[u8], place: u64) -> Result<(Option<AttrSpec>, u64), Fault>
     requires { place ≤ length section.now }
     ensures answer { result ≡ pair_at (from section.now place) }
     ensures inside { IfOk result (λ r. (place + 2 ≤ r.1) × (r.1 ≤ length section.now)) }
 {
-    let mut cut = whole(section, place);
-    let pair = read_any_pair(&mut cut)?;
-    Ok((pair, cut.place()))
+    let (name, behind) = read_number(section, place)?;
+    let (form, end) = read_number(section, behind)?;
+    if name == 0 && form == 0 {
+        return Ok((None, end));
+    }
+    let (implicit, end) = read_implicit(section, end, form)?;
+    Ok((
+        Some(AttrSpec {
+            name,
+            form,
+            implicit,
+        }),
+        end,
+    ))
 }
 
 /// The name and the form of a pair of two bytes: each number has one, and none stands behind them.
-#[inline]
+#[inline(always)]
 fn short_pair(section: &[u8], place: u64) -> Option<(u8, u8)>
     requires { place ≤ length section.now }
     ensures { IfSome result (λ pair.
@@ -103,7 +150,7 @@ fn short_pair(section: &[u8], place: u64) -> Option<(u8, u8)>
 }
 
 /// The pair at a place and the place behind it; `None` is the pair 0, 0.
-#[inline]
+#[inline(always)]
 pub(crate) fn read_pair(section: &[u8], place: u64) -> Result<(Option<AttrSpec>, u64), Fault>
     requires { place ≤ length section.now }
     ensures answer { result ≡ pair_at (from section.now place) }
@@ -125,7 +172,7 @@ pub(crate) fn read_pair(section: &[u8], place: u64) -> Result<(Option<AttrSpec>,
 
 /// The first of the pairs that begin at `place` and were read before, and the place behind it; `None`
 /// where none is left.
-#[inline]
+#[inline(never)]
 pub(crate) fn next_pair(section: &[u8], place: u64) -> Option<(AttrSpec, u64)>
     requires { PairsWereRead section.now place }
     ensures { GivesPair result section.now (pairs_of (pairs_at section.now place)) }

@@ -1,5 +1,5 @@
 -- What a helper sees of cells and blocks, as it sees more.
-use Rattle.std.proofs.Common.{◌≡◌, ◌≢◌, ◌⊎◌, ℕ, ◌+◌, ◌-◌, ◌*◌, ◌/◌, ◌<◌, ◌≤◌, true, List, length, Option, None, Some, refl, sym, ap, subst, ◌∙◌, inl, inr, ⊎_elim, arith}
+use Rattle.std.proofs.Common.{◌≡◌, ◌≢◌, ◌⊎◌, ℕ, ◌+◌, ◌-◌, ◌*◌, ◌/◌, ◌<◌, ◌≤◌, true, List, length, Option, refl, sym, ap, subst, ◌∙◌, inl, inr, ⊎_elim, arith}
 use mathlib.Core.Logic.{dite}
 use native.Mathlib.Decide.{ℕ_discrete}
 use Rattle.map_core.specs.declared.cell.Cell.{Cell}
@@ -10,7 +10,7 @@ use Rattle.map_core.specs.Sizes.{cells_of}
 use Rattle.map_core.specs.Calls.{own}
 use Rattle.map_core.specs.History.{is_in}
 use Rattle.map_core.specs.Places.{key_place, value_place, finish_place, Within, IsCell, IsBlock}
-use Rattle.map_core.specs.Machine.{greatest, IsWord, IsPublished, CellMoved, BlockMoved}
+use Rattle.map_core.specs.Machine.{IsWord, IsPublished, CellMoved, BlockMoved}
 use Rattle.map_core.specs.Passes.{look, drop_claim, AtRest, PassFacts}
 use Rattle.map_core.proofs.SizeLemmas.{blocks_whole}
 use Rattle.map_core.proofs.MovedLemmas.{cell_moved_on}

@@ -12,11 +12,15 @@ ghost use Rattle.block_moves.specs.Moved.{SeenFinished, IsFull, Helps};
 use crate::blocks::move_block;
 use map_cells::{Cells, Facts, Pass};
 
-/// What came of helping: no move is due, the next generation is current, or a pair had no room in the table.
+/// What came of helping.
 #[derive(Clone, Copy, Debug, PartialEq, Eq)]
 pub enum Helped {
+    /// No move is due: by the count of entries the current generation is less than three quarters full, or it is the last.
     Nothing,
+    /// The move that was due is made. This generation, the one above the one that was current, is current now, or a
+    /// higher one.
     Switched { generation: u32 },
+    /// A pair had no room in the table, which has as many entries as its capacity. The blocks moved so far stay moved.
     LastFull,
 }
 

@@ -2,6 +2,8 @@
 
 /// `DW_AT_location`
 pub const LOCATION: u64 = 0x02;
+/// `DW_AT_name`
+pub const NAME: u64 = 0x03;
 /// `DW_AT_stmt_list`
 pub const STMT_LIST: u64 = 0x10;
 /// `DW_AT_low_pc`

@@ -1,14 +1,17 @@
 -- How a command's text and the line of its refusal make up an ending.
-use Rattle.std.proofs.Common.{◌≡◌, ◌⊎◌, inl, inr, ℕ, ◌≤◌, ◌<◌, List, Option, Some, None, IfSome, ap, ◌∙◌, arith, take, ◌+◌}
+use Rattle.std.proofs.Common.{◌≡◌, ◌⊎◌, inl, inr, ℕ, ◌≤◌, ◌<◌, List, [], Option, Some, None, IfSome, IsSome, is_some, option_map, sym, zero, suc, ap, ◌∙◌, arith, refl, take, ◌+◌}
+use Rattle.std.proofs.lemmas.Bool.{false≢true}
+use Rattle.dw_outside.specs.Faults.{Rose}
 use Rattle.dw_outside.specs.Gains.{Gains, GainsPart}
 use Rattle.dw_outside.specs.GainsLaws.{Gains-nothing, GainsPart-whole, GainsPart-nothing}
 use Rattle.elf_sections.specs.declared.class_layout.TheConstants.{FILE_LIMIT}
 use Rattle.elf_sections.specs.Laws.{elf_of_whole}
-use Rattle.dw_run.specs.declared.command.Command.{Command}
 use Rattle.dw_run.specs.declared.refusals.Refusal.{Refusal}
-use Rattle.dw_run.specs.Endings.{EndsRefused}
-use Rattle.dw_run.specs.Output.{Ends, Meets, StopsWithin, err_of, status_of, output_of_text, text_of_file, text_of_table}
+use Rattle.elf_sections.specs.Rows.{ElfView}
+use Rattle.dw_run.specs.Endings.{EndsRefused, EndsWith, misunderstood_line, no_memory_line, unread_line}
+use Rattle.dw_run.specs.Output.{Ends, EndsRun, Meets, NothingFailed, Output, StopsWithin, err_of, status_of, output_of_request, output_of_text, text_of_file, text_of_table}
 use Rattle.dw_run.specs.CommandTexts.{CommandText}
+use Rattle.dw_run.specs.FileRequests.{FileRequest, on_file}
 
 -- all was printed, and nothing is refused
 pub ends_done : (printed : CommandText) (out0 out1 err : Option (List ℕ)) (out_faults0 out_faults1 err_faults : ℕ)
@@ -58,44 +61,157 @@ ends_refused printed refusal status out0 out1 err0 err1 out_faults0 out_faults1 
 }
 
 -- a front of FILE_LIMIT + 1 bytes gives the text of the whole file
-pub text_of_front : (command : Command) (front whole : List ℕ) → front ≡ take (FILE_LIMIT + 1) whole → text_of_file command front ≡ text_of_file command whole
+text_of_front : (text : ElfView → CommandText) (front whole : List ℕ) → front ≡ take (FILE_LIMIT + 1) whole → text_of_file text front ≡ text_of_file text whole
 unfolding text_of_file
-text_of_front command front whole is = ap (text_of_table command) (elf_of_whole front whole is)
+text_of_front text front whole is = ap (text_of_table text) (elf_of_whole front whole is)
+
+-- the output of a command on the file that a name may hold
+abbrev output_on : (ElfView → CommandText) → Option (List ℕ) → Option Output
+output_on text held = option_map (λ file. output_of_text (text_of_file text file)) held
 
 -- what a whole file gives, from what its front gave
-pub meets_whole : (held : Option (List ℕ)) (command : Command) (front items : List ℕ) (status : ℕ) (out0 out1 err0 err1 : Option (List ℕ)) (out_faults0 out_faults1 err_faults0 err_faults1 : ℕ)
+meets_whole : (held : Option (List ℕ)) (text : ElfView → CommandText) (front items : List ℕ) (status : ℕ) (out0 out1 err0 err1 : Option (List ℕ)) (out_faults0 out_faults1 err_faults0 err_faults1 : ℕ)
     → front ≡ items → IfSome held (λ bytes. items ≡ take (FILE_LIMIT + 1) bytes)
-    → Ends (text_of_file command front) status out0 out1 err0 err1 out_faults0 out_faults1 err_faults0 err_faults1 → status < 3
-    → IfSome held (λ file. Meets (output_of_text (text_of_file command file)) status out0 out1 err0 err1)
-meets_whole None command front items status out0 out1 err0 err1 out_faults0 out_faults1 err_faults0 err_faults1 same is end below = tt
-meets_whole (Some bytes) command front items status out0 out1 err0 err1 out_faults0 out_faults1 err_faults0 err_faults1 same is end below =
-    rw (← text_of_front command front bytes (same ∙ is)) (end.whole (below_two status below end.answers))
+    → Ends (text_of_file text front) status out0 out1 err0 err1 out_faults0 out_faults1 err_faults0 err_faults1 → status < 3
+    → IfSome (output_on text held) (λ output. Meets output status out0 out1 err0 err1)
+meets_whole None text front items status out0 out1 err0 err1 out_faults0 out_faults1 err_faults0 err_faults1 same is end below = tt
+meets_whole (Some bytes) text front items status out0 out1 err0 err1 out_faults0 out_faults1 err_faults0 err_faults1 same is end below =
+    rw (← text_of_front text front bytes (same ∙ is)) (end.whole (below_two status below end.answers))
 
 -- and the part of its text
-pub part_of_whole : (held : Option (List ℕ)) (command : Command) (front items : List ℕ) (status : ℕ) (out0 out1 err0 err1 : Option (List ℕ)) (out_faults0 out_faults1 err_faults0 err_faults1 : ℕ)
+part_of_whole : (held : Option (List ℕ)) (text : ElfView → CommandText) (front items : List ℕ) (status : ℕ) (out0 out1 err0 err1 : Option (List ℕ)) (out_faults0 out_faults1 err_faults0 err_faults1 : ℕ)
     → front ≡ items → IfSome held (λ bytes. items ≡ take (FILE_LIMIT + 1) bytes)
-    → Ends (text_of_file command front) status out0 out1 err0 err1 out_faults0 out_faults1 err_faults0 err_faults1
-    → IfSome held (λ file. GainsPart out0 out1 (text_of_file command file).text)
-part_of_whole None command front items status out0 out1 err0 err1 out_faults0 out_faults1 err_faults0 err_faults1 same is end = tt
-part_of_whole (Some bytes) command front items status out0 out1 err0 err1 out_faults0 out_faults1 err_faults0 err_faults1 same is end =
-    rw (← text_of_front command front bytes (same ∙ is)) end.part
-
--- nothing was written yet
-pub no_part : (held : Option (List ℕ)) (command : Command) (out : Option (List ℕ))
-    → IfSome held (λ file. GainsPart out out (text_of_file command file).text)
-no_part None command out = tt
-no_part (Some file) command out = GainsPart-nothing out out (text_of_file command file).text (Gains-nothing out)
+    → Ends (text_of_file text front) status out0 out1 err0 err1 out_faults0 out_faults1 err_faults0 err_faults1
+    → IfSome (output_on text held) (λ output. GainsPart out0 out1 output.out)
+part_of_whole None text front items status out0 out1 err0 err1 out_faults0 out_faults1 err_faults0 err_faults1 same is end = tt
+part_of_whole (Some bytes) text front items status out0 out1 err0 err1 out_faults0 out_faults1 err_faults0 err_faults1 same is end =
+    rw (← text_of_front text front bytes (same ∙ is)) end.part
 
 -- and the part of its line
-pub line_of_whole : (held : Option (List ℕ)) (command : Command) (front items : List ℕ) (status : ℕ) (out0 out1 err0 err1 : Option (List ℕ)) (out_faults0 out_faults1 err_faults0 err_faults1 source0 source1 : ℕ)
+line_of_whole : (held : Option (List ℕ)) (text : ElfView → CommandText) (front items : List ℕ) (status : ℕ) (out0 out1 err0 err1 : Option (List ℕ)) (out_faults0 out_faults1 err_faults0 err_faults1 source0 source1 : ℕ)
     → front ≡ items → IfSome held (λ bytes. items ≡ take (FILE_LIMIT + 1) bytes)
-    → Ends (text_of_file command front) status out0 out1 err0 err1 out_faults0 out_faults1 err_faults0 err_faults1
-    → IfSome held (λ file. StopsWithin (err_of (text_of_file command file).refusal) source0 source1 err0 err1)
-line_of_whole None command front items status out0 out1 err0 err1 out_faults0 out_faults1 err_faults0 err_faults1 source0 source1 same is end = tt
-line_of_whole (Some bytes) command front items status out0 out1 err0 err1 out_faults0 out_faults1 err_faults0 err_faults1 source0 source1 same is end =
-    inl (rw (← text_of_front command front bytes (same ∙ is)) end.line)
+    → Ends (text_of_file text front) status out0 out1 err0 err1 out_faults0 out_faults1 err_faults0 err_faults1
+    → IfSome (output_on text held) (λ output. StopsWithin output.err source0 source1 err0 err1)
+line_of_whole None text front items status out0 out1 err0 err1 out_faults0 out_faults1 err_faults0 err_faults1 source0 source1 same is end = tt
+line_of_whole (Some bytes) text front items status out0 out1 err0 err1 out_faults0 out_faults1 err_faults0 err_faults1 source0 source1 same is end =
+    inl (rw (← text_of_front text front bytes (same ∙ is)) end.line)
 
--- what holds of every file
-pub of_each : (held : Option (List ℕ)) (P : List ℕ → Type 0) → ((file : List ℕ) → P file) → IfSome held P
+at_most_five : (status : ℕ) → (status < 2) ⊎ (status ≡ 4) ⊎ (status ≡ 5) → status ≤ 5
+at_most_five status answers = grind arith
+
+not_two : (status : ℕ) → (status < 2) ⊎ (status ≡ 4) ⊎ (status ≡ 5) → status ≡ 2 → ⊥
+not_two status answers two = grind arith
+
+not_three : (status : ℕ) → (status < 2) ⊎ (status ≡ 4) ⊎ (status ≡ 5) → status ≡ 3 → ⊥
+not_three status answers three = grind arith
+
+-- a file was read, and its command ended
+pub ends_on_file : (name : List ℕ) (text : ElfView → CommandText) (holds : List ℕ → Option (List ℕ)) (front items : List ℕ) (status : ℕ)
+    (out0 out1 err0 err1 : Option (List ℕ)) (source0 source1 out_faults0 out_faults1 err_faults0 err_faults1 : ℕ)
+    → front ≡ items → IfSome (holds name) (λ bytes. items ≡ take (FILE_LIMIT + 1) bytes)
+    → Ends (text_of_file text front) status out0 out1 err0 err1 out_faults0 out_faults1 err_faults0 err_faults1
+    → EndsRun (Some (on_file name text)) holds status out0 out1 err0 err1 source0 source1 out_faults0 out_faults1 err_faults0 err_faults1
+ends_on_file name text holds front items status out0 out1 err0 err1 source0 source1 out_faults0 out_faults1 err_faults0 err_faults1 same is end = record {
+  answers = at_most_five status end.answers;
+  output = meets_whole (holds name) text front items status out0 out1 err0 err1 out_faults0 out_faults1 err_faults0 err_faults1 same is end;
+  meaningless = λ two. absurd (not_two status end.answers two);
+  read = λ three. absurd (not_three status end.answers three);
+  unread = λ three. absurd (not_three status end.answers three);
+  written = end.failed;
+  prefix = part_of_whole (holds name) text front items status out0 out1 err0 err1 out_faults0 out_faults1 err_faults0 err_faults1 same is end;
+  stopped = λ above. line_of_whole (holds name) text front items status out0 out1 err0 err1 out_faults0 out_faults1 err_faults0 err_faults1 source0 source1 same is end;
+}
+
+-- what holds of every output
+of_each : (output : Option Output) (P : Output → Type 0) → ((o : Output) → P o) → IfSome output P
 of_each None P all = tt
-of_each (Some file) P all = all file
+of_each (Some o) P all = all o
+
+no_part : (output : Option Output) (out : Option (List ℕ)) → IfSome output (λ output. GainsPart out out output.out)
+no_part output out = of_each output (λ output. GainsPart out out output.out) (λ o. GainsPart-nothing out out o.out (Gains-nothing out))
+
+above_two : (wanted status : ℕ) → 2 < wanted → (status ≡ wanted) ⊎ (status ≡ 4) ⊎ (status ≡ 5) → 2 < status
+above_two wanted status above answers = grind arith
+
+within_five : (wanted status : ℕ) → wanted ≤ 5 → (status ≡ wanted) ⊎ (status ≡ 4) ⊎ (status ≡ 5) → status ≤ 5
+within_five wanted status within answers = grind arith
+
+-- the file could not be read
+pub ends_unread : (request : Option FileRequest) (holds : List ℕ → Option (List ℕ)) (status : ℕ) (out err0 err1 : Option (List ℕ))
+    (source0 source1 out_faults err_faults0 err_faults1 : ℕ) → Rose source0 source1 → EndsWith unread_line 3 status err0 err1 err_faults0 err_faults1
+    → EndsRun request holds status out out err0 err1 source0 source1 out_faults out_faults err_faults0 err_faults1
+ends_unread request holds status out err0 err1 source0 source1 out_faults err_faults0 err_faults1 rose end =
+    let above : 2 < status = above_two 3 status (omega arith) end.answers in record {
+      answers = within_five 3 status (omega arith) end.answers;
+      output = λ below. absurd (omega (arith, above, below));
+      meaningless = λ two. absurd (omega (arith, above, two));
+      read = λ three. rose;
+      unread = λ three. (Gains-nothing out, end.printed (omega (arith, three)));
+      written = λ four. inr (end.failed four);
+      prefix = no_part (output_of_request request holds) out;
+      stopped = λ far. of_each (output_of_request request holds) (λ output. StopsWithin output.err source0 source1 err0 err1) (λ o. inr (rose, end.part));
+    }
+
+not_three_of : (wanted status : ℕ) → (wanted ≡ 3 → ⊥) → (status ≡ wanted) ⊎ (status ≡ 4) ⊎ (status ≡ 5) → status ≡ 3 → ⊥
+not_three_of wanted status other answers three = grind arith
+
+-- memory was wanting before anything was printed
+pub ends_without_memory : (request : Option FileRequest) (holds : List ℕ → Option (List ℕ)) (status : ℕ) (out err0 err1 : Option (List ℕ))
+    (source0 source1 out_faults err_faults0 err_faults1 : ℕ) → EndsWith no_memory_line 5 status err0 err1 err_faults0 err_faults1
+    → EndsRun request holds status out out err0 err1 source0 source1 out_faults out_faults err_faults0 err_faults1
+ends_without_memory request holds status out err0 err1 source0 source1 out_faults err_faults0 err_faults1 end =
+    let above : 2 < status = above_two 5 status (omega arith) end.answers in
+    let three_not : status ≡ 3 → ⊥ = not_three_of 5 status (λ is. omega (arith, is)) end.answers in record {
+      answers = within_five 5 status (omega arith) end.answers;
+      output = λ below. absurd (omega (arith, above, below));
+      meaningless = λ two. absurd (omega (arith, above, two));
+      read = λ three. absurd (three_not three);
+      unread = λ three. absurd (three_not three);
+      written = λ four. inr (end.failed four);
+      prefix = no_part (output_of_request request holds) out;
+      stopped = λ far. of_each (output_of_request request holds) (λ output. StopsWithin output.err source0 source1 err0 err1) (λ o. inl (inr end.part));
+    }
+
+two_below_three : (status : ℕ) → status < 3 → (status ≡ 2) ⊎ (status ≡ 4) ⊎ (status ≡ 5) → status ≡ 2
+two_below_three status below answers = grind arith
+
+-- nothing was asked
+pub ends_misunderstood : (holds : List ℕ → Option (List ℕ)) (status : ℕ) (out err0 err1 : Option (List ℕ))
+    (source0 source1 out_faults err_faults0 err_faults1 : ℕ)
+    → EndsWith misunderstood_line 2 status err0 err1 err_faults0 err_faults1
+    → EndsRun None holds status out out err0 err1 source0 source1 out_faults out_faults err_faults0 err_faults1
+ends_misunderstood holds status out err0 err1 source0 source1 out_faults err_faults0 err_faults1 end =
+    let three_not : status ≡ 3 → ⊥ = not_three_of 2 status (λ is. omega (arith, is)) end.answers in record {
+      answers = within_five 2 status (omega arith) end.answers;
+      output = λ below. record {
+        status_is = two_below_three status below end.answers;
+        on_out = Gains-nothing out;
+        on_err = end.printed (omega (arith, below));
+      };
+      meaningless = λ two. refl;
+      read = λ three. absurd (three_not three);
+      unread = λ three. absurd (three_not three);
+      written = λ four. inr (end.failed four);
+      prefix = GainsPart-nothing out out [] (Gains-nothing out);
+      stopped = λ far. inl (inl end.part);
+    }
+
+-- the status of a run that was asked for something, where nothing failed
+answered_status : (status : ℕ) → status ≤ 5 → (status ≡ 2 → ⊥) → (status ≡ 3 → ⊥) → (status ≡ 4 → ⊥) → (status < 2) ⊎ (status ≡ 5)
+answered_status zero within two three four = inl (omega arith)
+answered_status (suc zero) within two three four = inl (omega arith)
+answered_status (suc (suc zero)) within two three four = absurd (two refl)
+answered_status (suc (suc (suc zero))) within two three four = absurd (three refl)
+answered_status (suc (suc (suc (suc zero)))) within two three four = absurd (four refl)
+answered_status (suc (suc (suc (suc (suc zero))))) within two three four = inr refl
+answered_status (suc (suc (suc (suc (suc (suc n)))))) within two three four = absurd (omega (arith, within))
+
+pub ends_complete : (request : Option FileRequest) (holds : List ℕ → Option (List ℕ)) (status : ℕ) (out0 out1 err0 err1 : Option (List ℕ))
+    (source0 source1 out_faults0 out_faults1 err_faults0 err_faults1 : ℕ)
+    → EndsRun request holds status out0 out1 err0 err1 source0 source1 out_faults0 out_faults1 err_faults0 err_faults1
+    → IsSome request → NothingFailed source0 source1 out_faults0 out_faults1 err_faults0 err_faults1 → (status < 2) ⊎ (status ≡ 5)
+ends_complete request holds status out0 out1 err0 err1 source0 source1 out_faults0 out_faults1 err_faults0 err_faults1 end some nothing =
+    answered_status status end.answers
+    (λ two. false≢true (sym (ap is_some (end.meaningless two)) ∙ some))
+    (λ three. nothing.0 (end.read three))
+    (λ four. elim (end.written four) [ inl rose ↦ nothing.1 rose | inr rose ↦ nothing.2 rose ])

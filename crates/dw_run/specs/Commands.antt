@@ -1,16 +1,17 @@
--- What each command prints of a file's sections.
+-- What each command prints of the sections of a file.
 use Rattle.std.specs.Prelude.{ℕ, ◌+◌, List, [], ◌∷◌, ◌++◌, Option, Some, None}
 use Rattle.dw_fields.specs.declared.fault_code.Fault.{Fault}
 use Rattle.elf_sections.specs.Rows.{ElfView, SectionRow}
 use Rattle.elf_sections.specs.Shapes.{sections_of}
 use Rattle.unit_text.specs.SectionLine.{section_line}
 use Rattle.unit_text.specs.Tables.{tables_text}
-use Rattle.dw_run.specs.declared.command.Command.{Command}
-use Rattle.dw_run.specs.declared.command.Command.TheVariants as commands
-use Rattle.dw_run.specs.declared.command.TableCommand.{TableCommand}
-use Rattle.dw_run.specs.declared.command.TableCommand.TheVariants as table_commands
+use Rattle.dw_words.specs.declared.command.Command.{Command}
+use Rattle.dw_words.specs.declared.command.Command.TheVariants as commands
+use Rattle.dw_run.specs.declared.commands.TableCommand.{TableCommand}
+use Rattle.dw_run.specs.declared.commands.TableCommand.TheVariants as table_commands
 use Rattle.dw_run.specs.declared.refusals.Refusal.{Refusal}
 use Rattle.dw_run.specs.declared.refusals.Refusal.TheVariants as refusals
+use Rattle.dw_run.specs.declared.parts.Part.{Part}
 use Rattle.dw_run.specs.declared.parts.Part.TheVariants as parts
 use Rattle.dw_run.specs.CommandTexts.{CommandText, whole}
 use Rattle.dw_run.specs.Parts.{part_of_units}
@@ -28,13 +29,16 @@ tables_end (Some fault) = Some (refusals.Tables fault)
 unfoldable pub tables_printed : List ℕ → CommandText
 tables_printed section = record { text = (tables_text section).0; refusal = tables_end (tables_text section).1 }
 
-abbrev pub text_of_elf : Command → ElfView → CommandText
-text_of_elf commands.Units elf = part_of_units parts.Line (sections_of elf)
-text_of_elf commands.Sections elf = whole (sections_text 0 elf.sections)
-text_of_elf commands.Abbrev elf = tables_printed (sections_of elf).«abbrev»
-text_of_elf commands.Dump elf = part_of_units parts.Entries (sections_of elf)
-text_of_elf commands.Lines elf = part_of_units parts.LineTable (sections_of elf)
-text_of_elf commands.Ranges elf = part_of_units parts.Lists (sections_of elf)
+-- a part of each unit
+abbrev pub part_of_elf : Part → ElfView → CommandText
+part_of_elf part elf = part_of_units part (sections_of elf)
+
+abbrev pub text_of_command : Command → ElfView → CommandText
+text_of_command commands.Units elf = part_of_elf parts.Line elf
+text_of_command commands.Sections elf = whole (sections_text 0 elf.sections)
+text_of_command commands.Abbrev elf = tables_printed (sections_of elf).«abbrev»
+text_of_command commands.Lines elf = part_of_elf parts.LineTable elf
+text_of_command commands.Ranges elf = part_of_elf parts.Lists elf
 
 -- the command that goes over a table of the file
 abbrev pub command_of : TableCommand → Command

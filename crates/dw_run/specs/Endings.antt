@@ -9,9 +9,12 @@ use Rattle.dw_run.specs.RefusalLines.{refusal_line}
 abbrev pub line : List ℕ → List ℕ
 line words = words ++ 10 ∷ []
 
--- the lines that speak of the outside: docs/FORMATS.md lists them
+-- the lines that speak of the words and of the outside: docs/FORMATS.md lists them
 abbrev pub unread_line : List ℕ
 unread_line = line (codes "dwtool: cannot read the file")
+
+abbrev pub misunderstood_line : List ℕ
+misunderstood_line = line (codes "dwtool: words not understood")
 
 abbrev pub no_memory_line : List ℕ
 no_memory_line = line (codes "dwtool: out of memory")

@@ -1,7 +1,7 @@
 pub mod Commands
 pub mod CommandTexts
 pub mod FirstRefusal
-pub mod Words
+pub mod FileRequests
 pub mod Endings
 pub mod Output
 pub mod RefusalLines

@@ -1,19 +1,17 @@
 -- What the top call gives: the status, the bytes on standard output and the line on standard error, for
 -- words and for what each name holds.
-use Rattle.std.specs.Prelude.{◌≡◌, ℕ, ◌<◌, ◌≤◌, ◌⊎◌, List, [], Option, Some, None, Result, Ok, Err, codes, option_map}
+use Rattle.std.specs.Prelude.{◌≡◌, ℕ, ◌<◌, ◌≤◌, ◌⊎◌, List, [], Option, Some, None, IfSome, Result, Ok, Err, option_map}
 use Rattle.dw_outside.specs.Faults.{Rose}
 use Rattle.dw_outside.specs.Gains.{Gains, GainsPart}
 use Rattle.elf_sections.specs.Names.{elf_of}
 use Rattle.elf_sections.specs.declared.refusals.ElfRefusal.{ElfRefusal}
 use Rattle.elf_sections.specs.Rows.{ElfView}
-use Rattle.dw_run.specs.declared.command.Command.{Command}
 use Rattle.dw_run.specs.declared.refusals.Refusal.{Refusal}
 use Rattle.dw_run.specs.declared.refusals.Refusal.TheVariants as refusals
-use Rattle.dw_run.specs.Commands.{text_of_elf}
-use Rattle.dw_run.specs.Endings.{PartOfLine, line, unread_line}
+use Rattle.dw_run.specs.Endings.{PartOfLine, misunderstood_line, unread_line}
 use Rattle.dw_run.specs.RefusalLines.{refusal_line}
 use Rattle.dw_run.specs.CommandTexts.{CommandText}
-use Rattle.dw_run.specs.Words.{RequestView, meaning_of}
+use Rattle.dw_run.specs.FileRequests.{FileRequest, asked_by}
 
 pub record Output : Type 0 where
   pub status : ℕ
@@ -21,13 +19,13 @@ pub record Output : Type 0 where
   pub err : List ℕ
 
 -- a command's text on the sections of a file, or the refusal of its section table
-abbrev pub text_of_table : Command → Result ElfView ElfRefusal → CommandText
-text_of_table command (Ok elf) = text_of_elf command elf
-text_of_table command (Err refusal) = record { text = []; refusal = Some (refusals.File refusal) }
+abbrev pub text_of_table : (ElfView → CommandText) → Result ElfView ElfRefusal → CommandText
+text_of_table text (Ok elf) = text elf
+text_of_table text (Err refusal) = record { text = []; refusal = Some (refusals.File refusal) }
 
 -- a command's text on a file
-unfoldable pub text_of_file : Command → List ℕ → CommandText
-text_of_file command file = text_of_table command (elf_of file)
+unfoldable pub text_of_file : (ElfView → CommandText) → List ℕ → CommandText
+text_of_file text file = text_of_table text (elf_of file)
 
 abbrev pub status_of : Option Refusal → ℕ
 status_of None = 0
@@ -48,17 +46,17 @@ abbrev pub misunderstood : Output
 misunderstood = record {
   status = 2;
   out = [];
-  err = line (codes "dwtool: words not understood");
+  err = misunderstood_line;
 }
 
-abbrev pub output_of_request : Option RequestView → (List ℕ → Option (List ℕ)) → Option Output
+abbrev pub output_of_request : Option FileRequest → (List ℕ → Option (List ℕ)) → Option Output
 output_of_request None holds = Some misunderstood
 output_of_request (Some request) holds =
-    option_map (λ file. output_of_text (text_of_file request.command file)) (holds request.file)
+    option_map (λ file. output_of_text (text_of_file request.text file)) (holds request.file)
 
 -- the output; none where the source doesn't tell what the name holds
 abbrev pub output_of : List (List ℕ) → (List ℕ → Option (List ℕ)) → Option Output
-output_of words holds = output_of_request (meaning_of words) holds
+output_of words holds = output_of_request (asked_by words) holds
 
 -- the status is the output's, and both sinks gained its bytes
 pub record Meets (o : Output) (status : ℕ) (out0 out1 err0 err1 : Option (List ℕ)) : Type 0 where
@@ -88,3 +86,18 @@ pub record Ends (text : CommandText) (status : ℕ) (out0 out1 err0 err1 : Optio
   pub failed : status ≡ 4 → Rose out_faults0 out_faults1 ⊎ Rose err_faults0 err_faults1
   pub later_out : out_faults0 ≤ out_faults1
   pub later_err : err_faults0 ≤ err_faults1
+
+-- How a run ended that was asked for this: with its output; with the line that speaks of the source (3); because a sink
+-- failed (4); or for want of memory (5).
+pub record EndsRun (request : Option FileRequest) (holds : List ℕ → Option (List ℕ)) (status : ℕ)
+    (out0 out1 err0 err1 : Option (List ℕ))
+    (source0 source1 out_faults0 out_faults1 err_faults0 err_faults1 : ℕ) : Type 0 where
+  pub answers : status ≤ 5
+  pub output : status < 3 → IfSome (output_of_request request holds) (λ output. Meets output status out0 out1 err0 err1)
+  pub meaningless : status ≡ 2 → request ≡ None
+  pub read : status ≡ 3 → Rose source0 source1
+  pub unread : status ≡ 3 → Gains out0 out1 [] × Gains err0 err1 unread_line
+  pub written : status ≡ 4 → Rose out_faults0 out_faults1 ⊎ Rose err_faults0 err_faults1
+  pub prefix : IfSome (output_of_request request holds) (λ output. GainsPart out0 out1 output.out)
+  pub stopped : 3 < status → IfSome (output_of_request request holds)
+      (λ output. StopsWithin output.err source0 source1 err0 err1)

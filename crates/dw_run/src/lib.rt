@@ -10,8 +10,9 @@
 //! or its lists. A [`UnitReader`] looks up what the unit's text needs.
 #![tactic(auto)]
 
-mod command;
+mod commands;
 mod endings;
+mod file_command;
 mod laws;
 mod parts;
 mod program;
@@ -22,9 +23,7 @@ mod tables;
 mod unit_reader;
 mod unit_texts;
 mod units;
-mod words;
 
-pub use command::Command;
 pub use elf_builder::ElfBuilder;
 pub use laws::texts_before_the_first_refusal;
 pub use parts::{Part, append_part};

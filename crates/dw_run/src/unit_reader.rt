@@ -2,12 +2,11 @@
 
 ghost use Rattle.std.specs.Prelude.{◌≡◌, ◌<◌, IfOk, map};
 ghost use Rattle.elf_sections.specs.Shapes.{AreShort, sections_view};
-ghost use Rattle.entry_tree.specs.Units.{IsUnitOf, entries_of};
+ghost use Rattle.entry_tree.specs.Units.{IsUnitOf, entries_of, unit_facts, unit_header};
 ghost use Rattle.entry_tree.specs.Views.{entry_view};
 ghost use Rattle.unit_headers.specs.Headers.{unit_count};
 ghost use Rattle.unit_headers.specs.Refusals.{Answers};
 ghost use Rattle.handle_cache.specs.Handles.{Belongs, sections_in};
-ghost use Rattle.handle_cache.specs.Scanned.{unit_facts, unit_header};
 
 use abbrev_decl::Steps;
 use bumpalo::Bump;

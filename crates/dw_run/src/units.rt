@@ -4,7 +4,7 @@ ghost use Rattle.std.specs.Prelude.{◌≡◌};
 ghost use Rattle.dw_outside.specs.Faults.{HasCause};
 ghost use Rattle.dw_outside.specs.declared.stops.WriteStop.TheVariants as write_stops;
 ghost use Rattle.elf_sections.specs.Shapes.{AreShort, sections_view};
-ghost use Rattle.handle_cache.specs.Handles.{Belongs, sections_in, units_of};
+ghost use Rattle.handle_cache.specs.Handles.{Belongs, sections_in};
 ghost use Rattle.dw_run.specs.CommandTexts.{Prints};
 ghost use Rattle.dw_run.specs.Parts.{part_of_units};
 ghost use Rattle.dw_run.specs.declared.parts.Part.TheVariants as parts;
@@ -16,6 +16,7 @@ use crate::unit_texts::{UnitTexts, print_units};
 use bumpalo::Bump;
 use dw_outside::{Sink, WriteStop};
 use elf_sections::Sections;
+use entry_tree::renew;
 use handle_cache::{Handle, HandlePass};
 use std::alloc::Global;
 use std::marker::Model;
@@ -33,7 +34,7 @@ struct UnitLines<'f> {
 impl<'f> Model for UnitLines<'f> {
     ghost use Rattle.std.specs.Prelude.{◌≡◌};
     ghost use Rattle.elf_sections.specs.Shapes.{SectionsView, sections_view};
-    ghost use Rattle.handle_cache.specs.Handles.{units_of};
+    ghost use Rattle.entry_tree.specs.Units.{units_of};
 
     ghost Value = { SectionsView };
 
@@ -95,13 +96,6 @@ impl<'r, 'h, 'f> UnitTexts for UnitParts<'r, 'h, 'f> {
         let done = append_part(self.alloc, self.part, &self.arena, self.reader, unit, out);
         renew(self.alloc, &mut self.arena);
         done
-    }
-}
-
-/// Gives up what lies in the arena; a refused reset is answered by a new arena.
-fn renew(alloc: Global, arena: &mut Bump) {
-    if arena.reset().is_err() {
-        *arena = Bump::new(alloc);
     }
 }
 

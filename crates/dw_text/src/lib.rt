@@ -14,6 +14,7 @@ mod line_buffer;
 mod numbers;
 #[cfg(test)]
 mod tests;
+mod whole;
 mod words;
 
 pub use bytes::{push_hex_bytes, push_hex_bytes_after};
@@ -23,4 +24,5 @@ pub use numbers::{
     push_decimal, push_decimal_after, push_hex, push_hex_after, push_signed, push_signed_after,
     push_sixteen, push_sixteen_after,
 };
+pub use whole::keep_whole;
 pub use words::{push_text, push_text_after};

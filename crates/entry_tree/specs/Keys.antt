@@ -33,6 +33,11 @@ pub record IsFoundKey (section : List ℕ) (table k : ℕ) : Type 0 where
   pub is : k ≡ key table code
   pub found : IsOk (first_declaration section table code)
 
+-- the key of a code below 2^32 that has a declaration in one of the tables
+pub record IsDeclaredKey (section : List ℕ) (k : ℕ) : Type 0 where
+  pub table : ℕ
+  pub found : IsFoundKey section table k
+
 -- a list that only grew at its end, by such keys
 pub record GainsOnly (P : ℕ → Type 0) (old new : List ℕ) : Type 0 where
   pub more : List ℕ

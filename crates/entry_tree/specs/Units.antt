@@ -2,10 +2,11 @@
 use Rattle.std.specs.Prelude.{◌≡◌, ℕ, ◌≤◌, List, [], ◌∷◌, length, Option, Some, None, Result, Ok, Err, IfOk}
 use Rattle.dw_fields.specs.declared.fault_code.Fault.{Fault}
 use Rattle.dw_fields.specs.Span.{Span}
-use Rattle.dw_fields.specs.Reading.{IsAddressSize}
+use Rattle.dw_fields.specs.Reading.{IsAddressSize, ◌>>=◌}
 use Rattle.elf_sections.specs.Shapes.{SectionsView}
 use Rattle.unit_headers.specs.declared.header.UnitHeader.{UnitHeader}
-use Rattle.unit_headers.specs.Headers.{HasShape}
+use Rattle.unit_headers.specs.Headers.{HasShape, header_at}
+use Rattle.unit_headers.specs.Units.{Units}
 use Rattle.form_values.specs.declared.raw.UnitFacts.{UnitFacts}
 use Rattle.form_values.specs.View.{widths_of}
 use Rattle.entry_tree.specs.declared.first.RootCode.{RootCode}
@@ -13,6 +14,14 @@ use Rattle.entry_tree.specs.Views.{EntryView}
 use Rattle.entry_tree.specs.Entries.{entries_in, root_in, first_code_in}
 use Rattle.entry_tree.specs.Facts.{facts_from}
 use Rattle.entry_tree.specs.Tiles.{TileArea}
+
+-- the units of some sections
+abbrev pub units_of : SectionsView → Units
+units_of s = record { info = s.info; order = s.order; abbrev_length = length s.«abbrev» }
+
+-- the header of a unit of some sections
+abbrev pub unit_header : SectionsView → ℕ → Result UnitHeader Fault
+unit_header s unit = header_at s.info s.order (length s.«abbrev») unit
 
 -- the unit's entry area: from the header's end to the unit's end
 abbrev pub area_of : SectionsView → UnitHeader → Span
@@ -42,6 +51,10 @@ root_of sections header =
 unfoldable pub facts_of : SectionsView → UnitHeader → Result UnitFacts Fault
 facts_of sections header =
     facts_from header.address_size sections (root_of sections header)
+
+-- the facts of a unit of some sections: the refusal of its header, or what its root tells
+unfoldable pub unit_facts : SectionsView → ℕ → Result UnitFacts Fault
+unit_facts s unit = unit_header s unit >>= facts_of s
 
 -- The entries in the words of the format: they tile the unit's area, up to its end or up to what is
 -- refused.

@@ -17,6 +17,7 @@ use std::alloc::AllocError;
 use unit_headers::{UnitHeader, UnitRefusal};
 
 /// The attribute of a pair.
+#[inline(always)]
 #[tactic(auto, unfolding(crate::specs::Entries::attr_at))]
 pub(crate) fn read_attr<'f>(
     cut: &mut Cut<'f>,
@@ -38,6 +39,7 @@ pub(crate) fn read_attr<'f>(
 }
 
 /// Puts one more attribute at the list's end.
+#[inline(always)]
 fn add_attr<'a>(attrs: &mut Vec<Attr<'a>, &'a Bump>, attr: Attr<'a>) -> Result<(), AllocError>
     ensures { OnOk result (map attr_view attrs.new.items
         ≡ map attr_view attrs.old.items ++ attr_view attr.entry ∷ []) }

@@ -7,6 +7,7 @@
 //! the source and of the counter of steps is part of their contracts.
 #![tactic(auto)]
 
+mod arena;
 mod attributes;
 mod declared;
 mod entries;
@@ -19,6 +20,7 @@ mod root_values;
 #[cfg(test)]
 mod tests;
 
+pub use arena::renew;
 pub use entries::read_entries;
 pub use entry::{Attr, Entry};
 pub use first::RootCode;

@@ -25,7 +25,7 @@ use unit_headers::UnitHeader;
 /// - `Truncated` at the field that passes the cut's end. A count and the bytes that it counts are two
 ///   fields.
 /// - `LebTooLarge` at the LEB128 whose value is outside 64 bits.
-#[inline]
+#[inline(always)]
 pub fn read_value<'f>(
     cut: &mut Cut<'f>,
     form: u64,
@@ -44,7 +44,7 @@ pub fn read_value<'f>(
 ///
 /// # Errors
 /// Those of [`read_value`].
-#[inline]
+#[inline(always)]
 #[tactic(auto, unfolding(crate::specs::FormTable::value_at))]
 pub fn read_form<'f>(
     cut: &mut Cut<'f>,
@@ -96,7 +96,7 @@ fn fault_of_value(place: u64, fault: Fault) -> Fault
 }
 
 /// Reads a value whose form is neither indirect nor implicit.
-#[inline]
+#[inline(always)]
 #[tactic(auto, unfolding(crate::specs::FormTable::direct_at))]
 fn direct<'f>(cut: &mut Cut<'f>, form: u64, widths: Widths) -> Result<Raw<'f>, Fault>
     requires { IsAddressSize widths.address_size }
@@ -120,7 +120,7 @@ fn unknown_form(cut: &Cut<'_>) -> Fault
 }
 
 /// The forms 0x01 to 0x0f.
-#[inline]
+#[inline(always)]
 #[tactic(auto, unfolding(crate::specs::FormTable::low_at))]
 fn low<'f>(cut: &mut Cut<'f>, form: u64, widths: Widths) -> Result<Raw<'f>, Fault>
     requires { IsAddressSize widths.address_size }
@@ -147,7 +147,7 @@ fn low<'f>(cut: &mut Cut<'f>, form: u64, widths: Widths) -> Result<Raw<'f>, Faul
 }
 
 /// The forms 0x10 to 0x1f but indirect.
-#[inline]
+#[inline(always)]
 #[tactic(auto, unfolding(crate::specs::FormTable::middle_at))]
 fn middle<'f>(cut: &mut Cut<'f>, form: u64, widths: Widths) -> Result<Raw<'f>, Fault>
     ensures value { Gives raw_view result (middle_at form widths) cut.old cut.new }
@@ -174,7 +174,7 @@ fn middle<'f>(cut: &mut Cut<'f>, form: u64, widths: Widths) -> Result<Raw<'f>, F
 }
 
 /// The forms from 0x20 on but implicit_const.
-#[inline]
+#[inline(always)]
 #[tactic(auto, unfolding(crate::specs::FormTable::high_at))]
 fn high<'f>(cut: &mut Cut<'f>, form: u64) -> Result<Raw<'f>, Fault>
     ensures value { Gives raw_view result (high_at form) cut.old cut.new }

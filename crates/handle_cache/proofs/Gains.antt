@@ -7,11 +7,11 @@ use Rattle.abbrev_decl.specs.Lookup.{Notes, PlacesAtMost}
 use Rattle.elf_sections.specs.Shapes.{SectionsView}
 use Rattle.unit_headers.specs.declared.header.UnitHeader.{UnitHeader}
 use Rattle.entry_tree.specs.Keys.{GainsOnly, IsRootKeyOf, RootPlaces}
-use Rattle.entry_tree.specs.Units.{root_code_of}
+use Rattle.entry_tree.specs.Units.{root_code_of, unit_header}
 use Rattle.entry_tree.proofs.KeyLaws.{GainsOnly-one, GainsOnly-same, GainsOnly-then, GainsOnly-weaker, RootPlaces-gains}
 use Rattle.map_cells.specs.Seen.{PassView, Follows}
 use Rattle.handle_cache.specs.Handles.{HasWords, IsFactKey, IsRootKey, IsWordKey, front_keys, is_spent}
-use Rattle.handle_cache.specs.Scanned.{unit_header, word_key}
+use Rattle.handle_cache.specs.Scanned.{word_key}
 use Rattle.handle_cache.specs.SourceLaws.{still_spent}
 use Rattle.handle_cache.proofs.Calls.{still_held}
 

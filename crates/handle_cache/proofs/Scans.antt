@@ -10,9 +10,10 @@ use Rattle.abbrev_decl.specs.Lookup.{first_declaration, key}
 use Rattle.elf_sections.specs.Names.{elf_of}
 use Rattle.elf_sections.specs.Rows.{ElfView}
 use Rattle.elf_sections.specs.Shapes.{SectionsView, sections_of}
+use Rattle.entry_tree.specs.Units.{unit_facts}
 use Rattle.map_core.specs.Machine.{IsWord}
 use Rattle.handle_cache.specs.Handles.{HandleView, IsOpened, sections_in}
-use Rattle.handle_cache.specs.Scanned.{FitsFile, place_value, scanned, scanned_in, unit_facts, word_key, word_value}
+use Rattle.handle_cache.specs.Scanned.{FitsFile, place_value, scanned, scanned_in, word_key, word_value}
 
 pub scanned_of : (file : List ℕ) (elf : ElfView) (k : ℕ) → elf_of file ≡ Ok elf → scanned file k ≡ scanned_in (sections_of elf) k
 unfolding scanned

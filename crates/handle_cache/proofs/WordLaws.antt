@@ -8,9 +8,10 @@ use Rattle.std.proofs.lemmas.List.{get_or-set_same, get_or-set_other}
 use Rattle.dw_fields.specs.declared.fault_code.Fault.{Fault}
 use Rattle.form_values.specs.declared.raw.UnitFacts.{UnitFacts}
 use Rattle.entry_tree.specs.Facts.{FactsFit}
+use Rattle.entry_tree.specs.Units.{unit_facts}
 use Rattle.map_core.specs.Machine.{IsWord}
 use Rattle.handle_cache.specs.Handles.{HandleView, IsOpened, sections_in}
-use Rattle.handle_cache.specs.Scanned.{FitsFile, scanned_in, unit_facts, word_key, word_value}
+use Rattle.handle_cache.specs.Scanned.{FitsFile, scanned_in, word_key, word_value}
 use Rattle.handle_cache.specs.Words.{address_of_halves, fact_of_word, facts_of_words, has_64_bits, high_half, low_half, word_of_fact, words_of_facts}
 use Rattle.handle_cache.proofs.Scans.{scanned_of, word_scanned}
 

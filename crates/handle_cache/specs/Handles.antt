@@ -6,14 +6,13 @@ use Rattle.elf_sections.specs.Names.{elf_of}
 use Rattle.elf_sections.specs.Rows.{ElfView}
 use Rattle.elf_sections.specs.Shapes.{SectionsView, sections_of}
 use Rattle.unit_headers.specs.declared.header.UnitHeader.{UnitHeader}
-use Rattle.unit_headers.specs.Units.{Units}
 use Rattle.entry_tree.specs.Keys.{IsRootKeyOf}
-use Rattle.entry_tree.specs.Units.{root_code_of}
+use Rattle.entry_tree.specs.Units.{root_code_of, unit_header}
 use Rattle.map_core.specs.declared.entry.Entry.{Entry}
 use Rattle.map_core.specs.Calls.{own}
 use Rattle.map_core.specs.Passes.{AtRest}
 use Rattle.map_cells.specs.Seen.{CellsView, PassView, IsOf}
-use Rattle.handle_cache.specs.Scanned.{room_for, unit_header, word_key}
+use Rattle.handle_cache.specs.Scanned.{room_for, word_key}
 
 -- the bytes of the file, its sections, and the table that readers share
 pub record HandleView : Type 0 where
@@ -24,10 +23,6 @@ pub record HandleView : Type 0 where
 -- the sections with debugging data of the file
 abbrev pub sections_in : HandleView → SectionsView
 sections_in h = sections_of h.elf
-
--- the units of some sections
-abbrev pub units_of : SectionsView → Units
-units_of s = record { info = s.info; order = s.order; abbrev_length = length s.«abbrev» }
 
 -- what is true of every handle
 pub record IsOpened (h : HandleView) : Type 0 where

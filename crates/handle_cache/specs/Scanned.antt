@@ -2,7 +2,6 @@
 -- values are a form of our own.
 use Rattle.std.specs.Prelude.{◌≡◌, ℕ, ◌+◌, ◌-◌, ◌*◌, ◌/◌, ◌%◌, ◌^◌, nat_lt, min, List, length, slice_get, Option, Some, None, Result, Ok, Err, if◌then◌else◌}
 use Rattle.dw_fields.specs.declared.fault_code.Fault.{Fault}
-use Rattle.dw_fields.specs.Reading.{◌>>=◌}
 use Rattle.abbrev_decl.specs.declared.lookup.FindFault.{FindFault}
 use Rattle.abbrev_decl.specs.Shapes.{DeclView}
 use Rattle.abbrev_decl.specs.Lookup.{first_declaration}
@@ -11,23 +10,14 @@ use Rattle.elf_sections.specs.Names.{elf_of}
 use Rattle.elf_sections.specs.Rows.{ElfView}
 use Rattle.elf_sections.specs.Shapes.{SectionsView, sections_of}
 use Rattle.form_values.specs.declared.raw.UnitFacts.{UnitFacts}
-use Rattle.unit_headers.specs.declared.header.UnitHeader.{UnitHeader}
-use Rattle.unit_headers.specs.Headers.{header_at, unit_count}
-use Rattle.entry_tree.specs.Units.{facts_of}
+use Rattle.unit_headers.specs.Headers.{unit_count}
+use Rattle.entry_tree.specs.Units.{unit_facts}
 use Rattle.map_core.specs.declared.layout.TheConstants.{MOST_ENTRIES}
 use Rattle.handle_cache.specs.Words.{words_of_facts, has_64_bits}
 
 -- The key of a unit's word. The key of a declaration is `key` of `abbrev_decl`, and is below 2^63.
 abbrev pub word_key : ℕ → ℕ → ℕ
 word_key unit word = 2 ^ 63 + (unit * 8 + word)
-
--- the header of a unit of some sections
-abbrev pub unit_header : SectionsView → ℕ → Result UnitHeader Fault
-unit_header s unit = header_at s.info s.order (length s.«abbrev») unit
-
--- the facts of a unit of some sections: the refusal of its header, or what its root tells
-unfoldable pub unit_facts : SectionsView → ℕ → Result UnitFacts Fault
-unit_facts s unit = unit_header s unit >>= facts_of s
 
 -- the value of a declaration's key: its place plus 1
 abbrev pub place_value : Result DeclView FindFault → Option ℕ

@@ -95,7 +95,8 @@ impl<'f> Handle<'f> {
         ensures answer { result ≡ first_declaration (sections_in self.now).«abbrev» table code }
         ensures belongs { Belongs self.now pass.new }
         ensures follows { Follows pass.old pass.new }
-        ensures counted { CountsWalk (sections_in self.now).«abbrev» table code steps.old steps.new }
+        ensures counted { CountsWalk (sections_in self.now).«abbrev» table code
+            steps.old steps.new }
         ensures never_less { steps.old ≤ steps.new }
         ensures known { code < 2 ^ 32 → Contains (front_keys pass.old) (key table code)
             → steps.new ≡ steps.old }
@@ -142,7 +143,8 @@ impl<'f> Handle<'f> {
         ensures answer { result ≡ first_declaration (sections_in self.now).«abbrev» table code }
         ensures belongs { Belongs self.now pass.new }
         ensures follows { Follows pass.old pass.new }
-        ensures counted { CountsWalk (sections_in self.now).«abbrev» table code steps.old steps.new }
+        ensures counted { CountsWalk (sections_in self.now).«abbrev» table code
+            steps.old steps.new }
         ensures never_less { steps.old ≤ steps.new }
         ensures known { Contains (front_keys pass.old) (key table code) → steps.new ≡ steps.old }
         ensures placed { PlacesAtMost (own_keys pass.old) (own_keys pass.new) (key table code)

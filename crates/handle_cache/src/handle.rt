@@ -5,10 +5,10 @@ ghost use Rattle.elf_sections.specs.Names.{elf_of};
 ghost use Rattle.elf_sections.specs.Refusals.{Opens};
 ghost use Rattle.elf_sections.specs.Shapes.{AreShort, sections_of, sections_view};
 ghost use Rattle.unit_headers.specs.Headers.{unit_count};
-ghost use Rattle.entry_tree.specs.Units.{IsUnitOf};
+ghost use Rattle.entry_tree.specs.Units.{IsUnitOf, unit_header, units_of};
 ghost use Rattle.map_core.specs.declared.layout.TheConstants.{MOST_ENTRIES, MOST_PASSES};
-ghost use Rattle.handle_cache.specs.Handles.{Belongs, IsOpened, IsOpenedOn, sections_in, units_of};
-ghost use Rattle.handle_cache.specs.Scanned.{room_for, unit_header};
+ghost use Rattle.handle_cache.specs.Handles.{Belongs, IsOpened, IsOpenedOn, sections_in};
+ghost use Rattle.handle_cache.specs.Scanned.{room_for};
 
 use crate::cached::Cached;
 use crate::facts::{FileFacts, HandlePass};
@@ -46,7 +46,8 @@ impl<'f> Model for Handle<'f> {
     ghost use Rattle.std.specs.Prelude.{◌≡◌, ◌<◌, ◌^◌, length, Ok};
     ghost use Rattle.elf_sections.specs.Names.{elf_of};
     ghost use Rattle.elf_sections.specs.Shapes.{AreShort, sections_of, sections_view};
-    ghost use Rattle.handle_cache.specs.Handles.{HandleView, units_of};
+    ghost use Rattle.entry_tree.specs.Units.{units_of};
+    ghost use Rattle.handle_cache.specs.Handles.{HandleView};
     ghost use Rattle.handle_cache.specs.Scanned.{room_for};
 
     ghost Value = { HandleView };

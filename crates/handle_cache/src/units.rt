@@ -4,10 +4,11 @@ ghost use Rattle.std.specs.Prelude.{◌≡◌, ◌⊎◌, ◌<◌, ◌≤◌, �
 ghost use Rattle.unit_headers.specs.Headers.{unit_count};
 ghost use Rattle.entry_tree.specs.Facts.{FactsFit};
 ghost use Rattle.entry_tree.specs.Keys.{GainsOnly};
+ghost use Rattle.entry_tree.specs.Units.{unit_facts};
 ghost use Rattle.map_core.specs.Machine.{IsWord};
 ghost use Rattle.map_cells.specs.Seen.{Follows};
 ghost use Rattle.handle_cache.specs.Handles.{Belongs, HasWords, IsFactKey, IsRootKey, IsWordKey, front_keys, is_spent, own_keys, sections_in};
-ghost use Rattle.handle_cache.specs.Scanned.{FitsFile, unit_facts, word_key};
+ghost use Rattle.handle_cache.specs.Scanned.{FitsFile, word_key};
 ghost use Rattle.handle_cache.specs.Words.{AreWords};
 
 use crate::cached::Cached;
@@ -108,7 +109,7 @@ impl<'f> Handle<'f> {
     }
 
     /// Reads the header and the root of a unit.
-    #[tactic(auto, unfolding(crate::specs::Scanned::unit_facts))]
+    #[tactic(auto, unfolding(entry_tree::specs::Units::unit_facts))]
     fn read_facts<L>(
         &self,
         pass: &mut HandlePass<'f>,

@@ -1,3 +1,4 @@
 pub mod Machine
 pub mod Operations
+pub mod OperationLaws
 pub mod Running

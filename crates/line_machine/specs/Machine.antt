@@ -84,4 +84,5 @@ line_step h r (ops.SetAddress n) =
     quiet (record r { address = wrapped_address h.address_size n; op_index = 0 })
 line_step h r (ops.SetDiscriminator n) = quiet (record r { discriminator = n })
 line_step h r (ops.Special a) = appended (cleared (special h r a)) (special h r a)
+line_step h r ops.DefineFile = quiet r
 line_step h r ops.Nothing = quiet r

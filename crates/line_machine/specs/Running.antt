@@ -1,6 +1,6 @@
 -- The rows of a line program: DWARF 5, section 6.2.5. Its operations are done one after another, from
 -- its first byte to its end.
-use Rattle.std.specs.Prelude.{◌≡◌, ◌<◌, ◌≤◌, ℕ, zero, suc, ◌-◌, List, [], ◌++◌, Option, Result, Ok, Err, option_to_list}
+use Rattle.std.specs.Prelude.{◌≡◌, ◌<◌, ◌≤◌, ℕ, zero, suc, ◌-◌, List, [], ◌++◌, map, Option, Result, Ok, Err, option_to_list}
 use Rattle.dw_fields.specs.declared.fault_code.Fault.{Fault}
 use Rattle.dw_fields.specs.Span.{Span, at}
 use Rattle.dw_fields.specs.Reading.{Reader, ◌>>=◌}
@@ -24,6 +24,11 @@ step_at h lengths registers s = do
 -- least one byte.
 unfoldable pub line_rows : Program → List ℕ → Span → Result (List Row) Fault
 line_rows h lengths s = walk (step_at h lengths) (s.end - s.place) (fresh h) s
+
+-- What a caller keeps of the rows.
+abbrev pub kept_rows : {K : Type 0} → (Row → K) → Result (List Row) Fault → Result (List K) Fault
+kept_rows kept (Ok rows) = Ok (map kept rows)
+kept_rows kept (Err f) = Err f
 
 -- The same in the words of the standard: so many operations are read and done one behind another, each
 -- begun before the end, and append these rows.

@@ -12,6 +12,6 @@ mod registers;
 mod running;
 
 pub use machine::step;
-pub use operations::{Operation, read_operation};
-pub use registers::{Program, Row};
-pub use running::{rows, rows_are_those_of_the_operations};
+pub use operations::{Operation, read_file_numbers, read_operation};
+pub use registers::{OfRow, Program, Row};
+pub use running::{rows, rows_are_those_of_the_operations, rows_as};

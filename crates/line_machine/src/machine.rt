@@ -77,6 +77,7 @@ pub fn step(program: &Program, registers: &mut Row, operation: Operation) -> Opt
             advance_special(program, registers, above);
             Some(append(registers))
         }
+        Operation::DefineFile => None,
         Operation::Nothing => None,
     }
 }

@@ -1,8 +1,9 @@
-//! The operations of a line program as they stand in its bytes (DWARF 5 section 6.2.5).
+//! The operations of a line program as they stand in its bytes (DWARF 5 section 6.2.5, DWARF 4 section
+//! 6.2.5).
 
 ghost use Rattle.std.specs.Prelude.{◌≡◌, ℕ, ◌+◌, ◌-◌, ◌<◌, ◌≤◌, length, OnOk};
 ghost use Rattle.dw_fields.specs.Reading.{Moves, Onward, Reads, number_at};
-ghost use Rattle.line_machine.specs.Operations.{extended_at, in_operation, in_program, operation_at, overlong, passed_over, set_address_at, standard_at, within_at};
+ghost use Rattle.line_machine.specs.Operations.{define_file_at, extended_at, file_numbers_at, file_passed_at, in_operation, in_program, operation_at, overlong, passed_over, set_address_at, standard_at, within_at};
 
 use crate::registers::Program;
 use dw_fields::{Code, Cut, Fault, renamed};
@@ -38,6 +39,9 @@ pub enum Operation {
     EndSequence,
     /// `DW_LNE_set_address`: sets the address.
     SetAddress(u64),
+    /// `DW_LNE_define_file`, in headers of version 4 alone: names a file behind those of the header.
+    /// The machine does nothing.
+    DefineFile,
     /// `DW_LNE_set_discriminator`: sets the discriminator.
     SetDiscriminator(u64),
     /// The special opcode that is so many above the first.
@@ -70,7 +74,7 @@ pub fn read_operation(
         return Ok(Operation::Special(u64::from(opcode - program.opcode_base)));
     }
     if opcode == 0 {
-        return read_extended(cut);
+        return read_extended(cut, program.version);
     }
     in_program(read_standard(cut, opcode, lengths))
 }
@@ -142,8 +146,8 @@ fn pass_operands(cut: &mut Cut<'_>, count: u8) -> Result<Operation, Fault>
 
 /// An extended operation behind its opcode 0.
 #[tactic(auto, unfolding(crate::specs::Operations::extended_at))]
-fn read_extended(cut: &mut Cut<'_>) -> Result<Operation, Fault>
-    ensures field { Reads (λ x. x) result extended_at cut.old cut.new }
+fn read_extended(cut: &mut Cut<'_>, version: u16) -> Result<Operation, Fault>
+    ensures field { Reads (λ x. x) result (extended_at version) cut.old cut.new }
     ensures moves { OnOk result (Moves 1 cut.old cut.new) }
 {
     let place = cut.place();
@@ -155,20 +159,21 @@ fn read_extended(cut: &mut Cut<'_>) -> Result<Operation, Fault>
         return Err(Fault::at(Code::LineTruncated, cut.place()));
     }
     let mut inside = cut.front(count);
-    let operation = read_within(&mut inside, place)?;
+    let operation = read_within(&mut inside, version, place)?;
     cut.pass(count);
     Ok(operation)
 }
 
 /// What stands inside an extended operation, whose length stands at `place`.
 #[tactic(auto, unfolding(crate::specs::Operations::within_at))]
-fn read_within(cut: &mut Cut<'_>, place: u64) -> Result<Operation, Fault>
-    ensures { Reads (λ x. x) result (within_at place) cut.old cut.new }
+fn read_within(cut: &mut Cut<'_>, version: u16, place: u64) -> Result<Operation, Fault>
+    ensures { Reads (λ x. x) result (within_at version place) cut.old cut.new }
 {
     let kind = in_operation(place, cut.u8())?;
     match kind {
         1 => Ok(Operation::EndSequence),
         2 => read_address(cut, place),
+        3 => read_define_file(cut, version, place),
         4 => Ok(Operation::SetDiscriminator(in_operation(place, cut.uleb())?)),
         _ => Ok(Operation::Nothing),
     }
@@ -185,4 +190,40 @@ fn read_address(cut: &mut Cut<'_>, place: u64) -> Result<Operation, Fault>
         8 => Ok(Operation::SetAddress(cut.u64()?)),
         _ => Err(Fault::at(Code::ExtendedLength, place)),
     }
+}
+
+/// The operation 3, which only a program whose header is of version 4 knows.
+#[tactic(auto, unfolding(crate::specs::Operations::define_file_at))]
+fn read_define_file(cut: &mut Cut<'_>, version: u16, place: u64) -> Result<Operation, Fault>
+    ensures { Reads (λ x. x) result (define_file_at version place) cut.old cut.new }
+{
+    if version != 4 {
+        return Ok(Operation::Nothing);
+    }
+    let _directory = in_operation(place, pass_file(cut))?;
+    Ok(Operation::DefineFile)
+}
+
+/// A path and the numbers behind it.
+#[tactic(auto, unfolding(crate::specs::Operations::file_passed_at))]
+fn pass_file(cut: &mut Cut<'_>) -> Result<u64, Fault>
+    ensures { Reads (λ x. x) result file_passed_at cut.old cut.new }
+{
+    let _path = renamed(cut.text(), Code::TextUnended, Code::Truncated)?;
+    read_file_numbers(cut)
+}
+
+/// The numbers that stand behind the path of a file of version 4 (DWARF 4 section 6.2.4, item 12): of
+/// its directory, which is the answer, of the time of its last change, and of its size.
+///
+/// # Errors
+/// `Truncated` at a number that passes the cut's end, `LebTooLarge` at one outside 64 bits.
+#[tactic(auto, unfolding(crate::specs::Operations::file_numbers_at))]
+pub fn read_file_numbers(cut: &mut Cut<'_>) -> Result<u64, Fault>
+    ensures { Reads (λ x. x) result file_numbers_at cut.old cut.new }
+{
+    let directory = cut.uleb()?;
+    let _time = cut.uleb()?;
+    let _size = cut.uleb()?;
+    Ok(directory)
 }

@@ -1,6 +1,7 @@
 //! The registers of the line machine.
 
 ghost use Rattle.std.specs.Prelude.{◌≡◌};
+ghost use Rattle.line_machine.specs.declared.registers.Row.{Row};
 ghost use Rattle.line_machine.specs.Machine.{cleared, fresh};
 
 /// A row of the line table; the machine's registers have the same fields (DWARF 5 section 6.2.2).
@@ -32,10 +33,34 @@ pub struct Row {
     pub end: bool,
 }
 
+/// What a caller keeps of a row of the line table.
+///
+/// `kept` is what is kept. A list of such rows is made while the program runs, without a list of whole
+/// rows beside it.
+pub trait OfRow: Copy {
+    ghost kept: { Row → Self };
+
+    /// What is kept of this row.
+    fn of_row(row: &Row) -> Self
+        ensures { result ≡ kept row.now };
+}
+
+/// All of it.
+impl OfRow for Row {
+    ghost kept = { λ row. row };
+
+    #[inline]
+    fn of_row(row: &Row) -> Row {
+        *row
+    }
+}
+
 /// What a line program's header tells its machine (DWARF 5 section 6.2.4), and the unit's address
 /// size in bytes.
 #[derive(Clone, Copy, Debug, PartialEq, Eq)]
 pub struct Program {
+    /// The header's version, 4 or 5: in version 4 a program may define files.
+    pub version: u16,
     /// The size of the smallest instruction.
     pub min_length: u8,
     /// How many operations an instruction has at most.

@@ -1,14 +1,14 @@
 //! A line program run from its first byte to its end (DWARF 5 section 6.2).
 
-ghost use Rattle.std.specs.Prelude.{◌≡◌, ◌+◌, ◌≤◌, [], ◌++◌, length, IfOk, OnOk, option_to_list};
+ghost use Rattle.std.specs.Prelude.{◌≡◌, ◌+◌, ◌≤◌, [], ◌++◌, length, map, IfOk, OnOk, option_to_list};
 ghost use Rattle.dw_fields.specs.Reading.{Moves, Reads};
 ghost use Rattle.unit_headers.specs.Refusals.{Answers};
 ghost use Rattle.line_machine.specs.Machine.{IsRunnable, fresh as fresh_of};
-ghost use Rattle.line_machine.specs.Running.{IsRun, line_rows, outcome, step_at};
+ghost use Rattle.line_machine.specs.Running.{IsRun, kept_rows, line_rows, outcome, step_at};
 
 use crate::machine::step;
 use crate::operations::read_operation;
-use crate::registers::{Program, Row, fresh};
+use crate::registers::{OfRow, Program, Row, fresh};
 use dw_fields::{Cut, Fault};
 use std::alloc::{AllocError, Global};
 use unit_headers::UnitRefusal;
@@ -21,16 +21,34 @@ const ROOM: u64 = 65_536;
 ///
 /// # Errors
 /// Those of [`read_operation`] at the first operation that is refused, or want of memory.
-#[tactic(auto, using(crate::proofs::Turns::rows_start))]
 pub fn rows(
     alloc: Global,
-    mut cut: Cut<'_>,
+    cut: Cut<'_>,
     program: &Program,
     lengths: &[u8],
 ) -> Result<Vec<Row>, UnitRefusal>
     requires runnable { IsRunnable program.now }
     requires known { program.now.opcode_base ≤ length lengths.now + 1 }
     ensures { Answers (λ v. v.items) result (line_rows program.now lengths.now cut.entry) }
+{
+    rows_as(alloc, cut, program, lengths)
+}
+
+/// What a caller keeps of these rows.
+///
+/// # Errors
+/// Those of [`rows`].
+#[tactic(auto, using(crate::proofs::Turns::rows_start))]
+pub fn rows_as<K: OfRow>(
+    alloc: Global,
+    mut cut: Cut<'_>,
+    program: &Program,
+    lengths: &[u8],
+) -> Result<Vec<K>, UnitRefusal>
+    requires runnable { IsRunnable program.now }
+    requires known { program.now.opcode_base ≤ length lengths.now + 1 }
+    ensures { Answers (λ v. v.items) result
+        (kept_rows K.kept (line_rows program.now lengths.now cut.entry)) }
 {
     let left = cut.left();
     let mut rows = room(alloc, left)?;
@@ -46,7 +64,7 @@ pub fn rows(
 }
 
 /// No rows, with room for those of so many bytes: most rows take a few bytes.
-fn room(alloc: Global, bytes: u64) -> Result<Vec<Row>, AllocError>
+fn room<K: OfRow>(alloc: Global, bytes: u64) -> Result<Vec<K>, AllocError>
     ensures { IfOk result (λ v. v.items ≡ []) }
 {
     Vec::with_capacity(alloc, (bytes / 4).min(ROOM) as usize)
@@ -71,13 +89,13 @@ fn read_step(
     Ok(step(program, registers, operation))
 }
 
-/// Puts the row behind the others, where there is one.
+/// Puts what is kept of the row behind the others, where there is one.
 #[inline]
-fn keep(rows: &mut Vec<Row>, row: Option<Row>) -> Result<(), AllocError>
-    ensures { OnOk result (rows.new.items ≡ rows.old.items ++ option_to_list row) }
+fn keep<K: OfRow>(rows: &mut Vec<K>, row: Option<Row>) -> Result<(), AllocError>
+    ensures { OnOk result (rows.new.items ≡ rows.old.items ++ map K.kept (option_to_list row)) }
 {
     match row {
-        Some(row) => Ok(rows.push(row)?),
+        Some(row) => Ok(rows.push(K::of_row(&row))?),
         None => Ok(()),
     }
 }

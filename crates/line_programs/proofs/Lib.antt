@@ -1,3 +1,5 @@
 pub mod Lists
 mod Fronts
 mod LastLaws
+mod Entries
+mod Defined

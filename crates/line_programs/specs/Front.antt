@@ -1,6 +1,6 @@
--- The front of a line program's header, version 5: DWARF 5, section 6.2.4, up to the lengths of the
--- standard opcodes.
-use Rattle.std.specs.Prelude.{ℕ, Bool, not, ◌+◌, ◌==◌, nat_lt, nat_le, List, length, Result, Ok}
+-- The front of a line program's header, up to the lengths of the standard opcodes: of version 5 (DWARF
+-- 5, section 6.2.4) and of version 4 (DWARF 4, section 6.2.4).
+use Rattle.std.specs.Prelude.{ℕ, Bool, not, if◌then◌else◌, ◌||◌, ◌+◌, ◌==◌, nat_lt, nat_le, List, length, Result, Ok}
 use Rattle.std.specs.Int.{cast_signed, w8}
 use Rattle.dw_fields.specs.declared.byte_order.Order.{Order}
 use Rattle.dw_fields.specs.declared.fault_code.Fault.{Fault}
@@ -11,6 +11,7 @@ use Rattle.dw_fields.specs.Reading.{Reader, ◌>>=◌, ◌>>◌, refuse, renamed
 use Rattle.line_programs.specs.declared.front.Bounds.{Bounds}
 use Rattle.line_programs.specs.declared.front.InstructionFields.{InstructionFields}
 use Rattle.line_programs.specs.declared.front.SpecialOpcodes.{SpecialOpcodes}
+use Rattle.line_programs.specs.declared.front.Start.{Start}
 
 -- A field or a text of the header that passes the header's end.
 abbrev pub in_header : {X : Type 0} → Result X Fault → Result X Fault
@@ -29,22 +30,34 @@ bounds_at section order offset = do
   refuse (nat_lt (length section) (size.1 + size.0.value)) (fault LineTruncated offset)
   Ok (record { place = size.1; end = size.1 + size.0.value; wide = size.0.wide })
 
--- The version, and the sizes of addresses and segments, which aren't used.
+-- The versions whose headers are read.
+abbrev pub is_line_version : ℕ → Bool
+is_line_version version = version == 4 || version == 5
+
+-- A version, and behind version 5 the sizes of addresses and segments, which aren't used.
+unfoldable pub sizes_passed_at : ℕ → Reader ℕ
+sizes_passed_at version s =
+    if version == 4 then Ok (version, s.place)
+    else (do
+      address ← in_header (number_at 1 s)
+      segment ← in_header (number_at 1 (at s address.1))
+      Ok (version, segment.1))
+
+-- The version, with the sizes that its header has.
 unfoldable pub line_version_at : Reader ℕ
 line_version_at s = do
   version ← in_header (number_at 2 s)
-  refuse (not (version.0 == 5)) (fault LineVersion s.place)
-  address ← in_header (number_at 1 (at s version.1))
-  segment ← in_header (number_at 1 (at s address.1))
-  Ok (version.0, segment.1)
+  refuse (not (is_line_version version.0)) (fault LineVersion s.place)
+  sizes_passed_at version.0 (at s version.1)
 
--- What stands before the fields of the machine: how many bytes of the header are left behind it.
-unfoldable pub start_at : Bool → Reader ℕ
+-- What stands before the fields of the machine: the version, and how many bytes of the header are left
+-- behind it.
+unfoldable pub start_at : Bool → Reader Start
 start_at wide s = do
   version ← line_version_at s
   size ← in_header (offset_at wide (at s version.1))
   refuse (nat_lt s.end (size.1 + size.0)) (fault LineTruncated version.1)
-  Ok size
+  Ok (record { version = version.0; size = size.0 }, size.1)
 
 -- The size of an instruction, its greatest number of operations, and stmt at the start.
 unfoldable pub instruction_fields_at : Reader InstructionFields

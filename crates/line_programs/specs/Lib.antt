@@ -3,5 +3,8 @@ pub mod Formats
 pub mod Shapes
 pub mod Names
 pub mod LastValues
+pub mod LineTables
 pub mod Tables
+pub mod TextTables
+pub mod DefinedFiles
 pub mod Headers

@@ -1,9 +1,9 @@
 //! The front of a line program's header, up to the lengths of the standard opcodes (DWARF 5 section
-//! 6.2.4, items 1 to 10).
+//! 6.2.4, items 1 to 10, DWARF 4 section 6.2.4, items 1 to 10).
 
 ghost use Rattle.std.specs.Prelude.{◌≡◌, ◌+◌, ◌≤◌, ◌<◌, length, IfOk};
 ghost use Rattle.dw_fields.specs.Reading.{Reads};
-ghost use Rattle.line_programs.specs.Front.{bounds_at, in_header, instruction_fields_at, line_version_at, special_opcodes_at, start_at};
+ghost use Rattle.line_programs.specs.Front.{bounds_at, in_header, instruction_fields_at, line_version_at, sizes_passed_at, special_opcodes_at, start_at};
 
 use dw_fields::{Code, Cut, Fault, Order, renamed};
 
@@ -16,6 +16,13 @@ pub(crate) struct Bounds {
     pub end: u64,
     /// Whether it is of the 64-bit format: its offsets have 8 bytes.
     pub wide: bool,
+}
+
+/// The version of a header, and how many bytes of it are left behind its length.
+#[derive(Clone, Copy, Debug, PartialEq, Eq)]
+pub(crate) struct Start {
+    pub version: u16,
+    pub size: u64,
 }
 
 /// How an instruction is counted, and `stmt` at the start of a sequence.
@@ -68,34 +75,45 @@ pub(crate) fn read_bounds(section: &[u8], order: Order, offset: u64) -> Result<B
     })
 }
 
-/// The version, and the sizes of addresses and segments, which aren't used.
+/// The version, with the sizes that its header has.
 #[tactic(auto, unfolding(crate::specs::Front::line_version_at))]
 fn read_line_version(cut: &mut Cut<'_>) -> Result<u16, Fault>
     ensures { Reads (λ x. x) result line_version_at cut.old cut.new }
 {
     let place = cut.place();
     let version = in_header(cut.u16())?;
-    if version != 5 {
-        return Err(Fault::at(Code::LineVersion, place));
+    if version == 4 || version == 5 {
+        return pass_sizes(cut, version);
+    }
+    Err(Fault::at(Code::LineVersion, place))
+}
+
+/// A version, and behind version 5 the sizes of addresses and segments, which aren't used.
+#[tactic(auto, unfolding(crate::specs::Front::sizes_passed_at))]
+fn pass_sizes(cut: &mut Cut<'_>, version: u16) -> Result<u16, Fault>
+    ensures { Reads (λ x. x) result (sizes_passed_at version) cut.old cut.new }
+{
+    if version == 4 {
+        return Ok(version);
     }
     let _address_size = in_header(cut.u8())?;
     let _segment_size = in_header(cut.u8())?;
     Ok(version)
 }
 
-/// What stands before the fields of the machine: how many bytes of the header are left behind it.
+/// What stands before the fields of the machine.
 #[tactic(auto, unfolding(crate::specs::Front::start_at))]
-pub(crate) fn read_start(cut: &mut Cut<'_>, wide: bool) -> Result<u64, Fault>
+pub(crate) fn read_start(cut: &mut Cut<'_>, wide: bool) -> Result<Start, Fault>
     ensures field { Reads (λ x. x) result (start_at wide) cut.old cut.new }
-    ensures fits { IfOk result (λ size. cut.new.place + size ≤ cut.new.end) }
+    ensures fits { IfOk result (λ start. cut.new.place + start.size ≤ cut.new.end) }
 {
-    let _version = read_line_version(cut)?;
+    let version = read_line_version(cut)?;
     let place = cut.place();
     let size = in_header(cut.offset(wide))?;
     if cut.left() < size {
         return Err(Fault::at(Code::LineTruncated, place));
     }
-    Ok(size)
+    Ok(Start { version, size })
 }
 
 /// The size of an instruction, its greatest number of operations, and `stmt` at the start.

@@ -1,24 +1,26 @@
-//! The header of a line program (DWARF 5 section 6.2.4).
+//! The header of a line program (DWARF 5 section 6.2.4, DWARF 4 section 6.2.4).
 
 ghost use Rattle.std.specs.Prelude.{◌≡◌, ◌+◌, ◌-◌, ◌<◌, length, map, IfOk};
 ghost use Rattle.dw_fields.specs.Reading.{IsAddressSize, Reads, bytes_at};
 ghost use Rattle.elf_sections.specs.Shapes.{sections_view};
 ghost use Rattle.unit_headers.specs.Refusals.{Answers};
-ghost use Rattle.line_machine.specs.Running.{line_rows};
-ghost use Rattle.line_programs.specs.Shapes.{machine_view, name_view};
+ghost use Rattle.line_machine.specs.Running.{kept_rows, line_rows};
+ghost use Rattle.line_programs.specs.Shapes.{machine_view, name_view, tables_view};
 ghost use Rattle.line_programs.specs.Front.{in_header};
-ghost use Rattle.line_programs.specs.Headers.{IsLineHeader, fields_of, line_header_of, machine_at};
+ghost use Rattle.line_programs.specs.Headers.{IsLineHeader, fields_of, line_header_of, machine_at, tables_of, tables_of_version_4, tables_of_version_5};
 
+use crate::defined_files::add_defined_files;
 use crate::front::{
     in_header, read_bounds, read_instruction_fields, read_special_opcodes, read_start,
 };
 use crate::names::FileName;
 use crate::path_texts::PathTexts;
 use crate::tables::{paths, read_table};
+use crate::text_tables::{TextTable, read_text_table};
 use dw_fields::{Code, Cut, Fault};
 use elf_sections::Sections;
 use form_values::Widths;
-use line_machine::{Program, Row, rows};
+use line_machine::{OfRow, Program, Row, rows, rows_as};
 use std::alloc::Global;
 use std::marker::Model;
 use unit_headers::{UnitHeader, UnitRefusal};
@@ -104,14 +106,22 @@ impl<'f> LineHeader<'f> {
         };
         let bounds = read_bounds(section, order, offset)?;
         let mut code = Cut::new(section, bounds.place, bounds.end, order);
-        let size = read_start(&mut code, bounds.wide)?;
-        let fields = code.front(size);
-        code.pass(size);
+        let start = read_start(&mut code, bounds.wide)?;
+        let fields = code.front(start.size);
+        code.pass(start.size);
         let widths = Widths {
             wide: bounds.wide,
             address_size: header.address_size,
         };
-        read_fields(alloc, texts, widths, code, fields)
+        read_fields(alloc, texts, widths, start.version, code, fields)
+    }
+
+    /// The version, 4 or 5. In version 4 the numbers of directories and files begin at 1, and those of
+    /// number 0 are empty.
+    pub fn version(&self) -> u16
+        ensures { result ≡ self.now.program.version }
+    {
+        self.program.version
     }
 
     /// The paths of the directories by their numbers.
@@ -121,7 +131,8 @@ impl<'f> LineHeader<'f> {
         self.directories.as_slice()
     }
 
-    /// The files by their numbers.
+    /// The files by their numbers. In version 4 those that the program defines stand behind those of the
+    /// header.
     pub fn files(&self) -> &[FileName<'f>]
         ensures { map name_view result.now ≡ self.now.files }
     {
@@ -143,6 +154,17 @@ impl<'f> LineHeader<'f> {
     {
         rows(alloc, self.code.fork(), &self.program, self.lengths)
     }
+
+    /// What a caller keeps of the rows of the program. No list of whole rows is made.
+    ///
+    /// # Errors
+    /// Those of [`LineHeader::rows`].
+    pub fn rows_as<K: OfRow>(&self, alloc: Global) -> Result<Vec<K>, UnitRefusal>
+        ensures { Answers (λ v. v.items) result
+            (kept_rows K.kept (line_rows self.now.program self.now.lengths self.now.code)) }
+    {
+        rows_as(alloc, self.code.fork(), &self.program, self.lengths)
+    }
 }
 
 /// What a header tells its machine.
@@ -154,15 +176,16 @@ struct Machine<'f> {
 
 /// The fields of the machine.
 #[tactic(auto, unfolding(crate::specs::Headers::machine_at))]
-fn read_machine<'f>(cut: &mut Cut<'f>, address_size: u8) -> Result<Machine<'f>, Fault>
+fn read_machine<'f>(cut: &mut Cut<'f>, version: u16, address_size: u8) -> Result<Machine<'f>, Fault>
     requires { IsAddressSize address_size }
-    ensures field { Reads machine_view result (machine_at address_size) cut.old cut.new }
+    ensures field { Reads machine_view result (machine_at version address_size) cut.old cut.new }
     ensures runs { IfOk result (λ m. IsLineHeader m.program m.lengths.now) }
 {
     let instruction = read_instruction_fields(cut)?;
     let special = read_special_opcodes(cut)?;
     let lengths = read_lengths(cut, special.opcode_base)?;
     let program = Program {
+        version,
         min_length: instruction.min_length,
         max_ops: instruction.max_ops,
         default_stmt: instruction.default_stmt,
@@ -184,6 +207,13 @@ fn read_lengths<'f>(cut: &mut Cut<'f>, opcode_base: u8) -> Result<&'f [u8], Faul
     in_header(cut.bytes(u64::from(opcode_base - 1)))
 }
 
+/// The directories and files of a header by their numbers.
+#[derive(Drop)]
+struct Tables<'f> {
+    directories: Vec<FileName<'f>>,
+    files: Vec<FileName<'f>>,
+}
+
 /// The fields from those of the machine on. `code` is the program, and `fields` what is left of the
 /// header.
 #[tactic(auto, unfolding(crate::specs::Headers::fields_of))]
@@ -191,22 +221,81 @@ fn read_fields<'f>(
     alloc: Global,
     texts: &mut PathTexts<'f>,
     widths: Widths,
+    version: u16,
     code: Cut<'f>,
     mut fields: Cut<'f>,
 ) -> Result<LineHeader<'f>, UnitRefusal>
     requires { IsAddressSize widths.address_size }
-    ensures header { Answers (λ h. h) result (fields_of texts.old widths code.entry fields.entry) }
+    ensures header { Answers (λ h. h) result
+        (fields_of texts.old widths version code.entry fields.entry) }
     ensures texts { texts.new ≡ texts.old }
 {
-    let machine = read_machine(&mut fields, widths.address_size)?;
-    let directories = read_table(alloc, &mut fields, texts, widths)?;
-    let files = read_table(alloc, &mut fields, texts, widths)?;
-    let directories = paths(alloc, directories.as_slice())?;
+    let machine = read_machine(&mut fields, version, widths.address_size)?;
+    let tables = read_tables(alloc, texts, widths, &machine, &code, fields)?;
+    let directories = paths(alloc, tables.directories.as_slice())?;
     Ok(LineHeader {
         code,
         program: machine.program,
         lengths: machine.lengths,
         directories,
-        files,
+        files: tables.files,
     })
+}
+
+/// The directories and files, behind the fields of this machine.
+#[tactic(auto, unfolding(crate::specs::Headers::tables_of))]
+fn read_tables<'f>(
+    alloc: Global,
+    texts: &mut PathTexts<'f>,
+    widths: Widths,
+    machine: &Machine<'f>,
+    code: &Cut<'f>,
+    fields: Cut<'f>,
+) -> Result<Tables<'f>, UnitRefusal>
+    requires size { IsAddressSize widths.address_size }
+    requires known { IsLineHeader machine.now.program machine.now.lengths.now }
+    ensures tables { Answers tables_view result
+        (tables_of texts.old widths (machine_view machine.now) code.now fields.entry) }
+    ensures texts { texts.new ≡ texts.old }
+{
+    if machine.program.version == 4 {
+        return read_tables_of_version_4(alloc, machine, code, fields);
+    }
+    read_tables_of_version_5(alloc, texts, widths, fields)
+}
+
+/// Tables that have formats.
+#[tactic(auto, unfolding(crate::specs::Headers::tables_of_version_5))]
+fn read_tables_of_version_5<'f>(
+    alloc: Global,
+    texts: &mut PathTexts<'f>,
+    widths: Widths,
+    mut fields: Cut<'f>,
+) -> Result<Tables<'f>, UnitRefusal>
+    requires { IsAddressSize widths.address_size }
+    ensures tables { Answers tables_view result
+        (tables_of_version_5 texts.old widths fields.entry) }
+    ensures texts { texts.new ≡ texts.old }
+{
+    let directories = read_table(alloc, &mut fields, texts, widths)?;
+    let files = read_table(alloc, &mut fields, texts, widths)?;
+    Ok(Tables { directories, files })
+}
+
+/// Tables of texts, and the files that the program defines.
+#[tactic(auto, unfolding(crate::specs::Headers::tables_of_version_4))]
+fn read_tables_of_version_4<'f>(
+    alloc: Global,
+    machine: &Machine<'f>,
+    code: &Cut<'f>,
+    mut fields: Cut<'f>,
+) -> Result<Tables<'f>, UnitRefusal>
+    requires { IsLineHeader machine.now.program machine.now.lengths.now }
+    ensures { Answers tables_view result
+        (tables_of_version_4 (machine_view machine.now) code.now fields.entry) }
+{
+    let directories = read_text_table(alloc, &mut fields, TextTable::Directories)?;
+    let mut files = read_text_table(alloc, &mut fields, TextTable::Files)?;
+    add_defined_files(&mut files, code.fork(), &machine.program, machine.lengths)?;
+    Ok(Tables { directories, files })
 }

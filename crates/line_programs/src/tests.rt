@@ -102,7 +102,7 @@ fn a_changed_byte_has_its_refusal(rt: HostRuntime) {
         (0x00, 0x44, 0, 0x00), // as it is
         (0x00, 0x45, 53, 0x00), // the program passes the section
         (0x03, 0xff, 53, 0x00), // the length is larger still
-        (0x04, 0x04, 50, 0x04), // another version
+        (0x04, 0x06, 50, 0x04), // another version
         (0x08, 0x3d, 53, 0x08), // the header passes the program
         (0x0d, 0x00, 52, 0x0d), // no operations
         (0x10, 0x00, 51, 0x10), // no range

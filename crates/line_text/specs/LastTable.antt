@@ -1,8 +1,8 @@
 -- What is kept of the line table that was read last.
 use Rattle.std.specs.Prelude.{◌≡◌, ℕ, Ok}
 use Rattle.elf_sections.specs.Shapes.{SectionsView}
+use Rattle.line_programs.specs.LineTables.{TableView, table_of}
 use Rattle.line_text.specs.declared.line_tables.LastTable.{LastTable}
-use Rattle.line_text.specs.LineTable.{TableView, table_of}
 
 abbrev pub table_view : LastTable → TableView
 table_view t = (t.program, t.rows.items)

@@ -6,12 +6,11 @@ use Rattle.dw_text.specs.Added.{labelled}
 use Rattle.dw_text.specs.Numbers.{decimal, hex}
 use Rattle.elf_sections.specs.Shapes.{SectionsView}
 use Rattle.line_machine.specs.declared.registers.Row.{Row}
-use Rattle.line_machine.specs.Running.{line_rows}
-use Rattle.line_programs.specs.Headers.{line_header_of}
+use Rattle.line_programs.specs.LineTables.{table_of}
 use Rattle.line_programs.specs.Shapes.{LineView}
 use Rattle.unit_headers.specs.declared.header.UnitHeader.{UnitHeader}
 use Rattle.unit_text.specs.Pieces.{Text}
-use Rattle.line_text.specs.Names.{directories_text, files_text}
+use Rattle.line_text.specs.Names.{directories_text, files_text, first_number}
 use Rattle.line_text.specs.Rows.{rows_text}
 
 -- the head of the table of a unit, at an offset of `.debug_line`
@@ -20,21 +19,15 @@ head_line unit offset =
     labelled (codes "lines of unit ") (decimal unit) ++ labelled (codes " at 0x") (hex offset)
     ++ 10 ∷ []
 
+-- the directories and the files of a program
+unfoldable pub names_text : LineView → List ℕ
+names_text program =
+    directories_text (first_number program.program.version) program.directories
+    ++ files_text (first_number program.program.version) program.files
+
 unfoldable pub table_text : ℕ → ℕ → LineView → List Row → List ℕ
 table_text unit offset program rows =
-    head_line unit offset ++ directories_text program.directories ++ files_text program.files
-    ++ rows_text rows
-
--- a program's header and its rows
-abbrev pub TableView : Type 0
-TableView = LineView × List Row
-
--- the header and the rows of the program at an offset, whose addresses have `size` bytes
-unfoldable pub table_of : SectionsView → ℕ → ℕ → Result TableView Fault
-table_of s size offset = do
-  program ← line_header_of s size offset
-  rows ← line_rows program.program program.lengths program.code
-  Ok (program, rows)
+    head_line unit offset ++ names_text program ++ rows_text rows
 
 -- the table at an offset
 unfoldable pub line_table_text : SectionsView → UnitHeader → ℕ → Text

@@ -5,10 +5,10 @@ ghost use Rattle.dw_fields.specs.Reading.{IsAddressSize};
 ghost use Rattle.dw_text.specs.Added.{Adds};
 ghost use Rattle.elf_sections.specs.Shapes.{sections_view};
 ghost use Rattle.unit_text.specs.Pieces.{Writes};
-ghost use Rattle.line_text.specs.LineTable.{head_line, lines_text, table_text};
+ghost use Rattle.line_text.specs.LineTable.{head_line, lines_text, names_text, table_text};
 
 use crate::line_tables::{LastTable, LineTables};
-use crate::names::{push_directories, push_files};
+use crate::names::{first_number, push_directories, push_files};
 use crate::row_text::push_rows;
 use dw_text::{push_decimal_after, push_hex_after, push_text};
 use elf_sections::Sections;
@@ -102,9 +102,19 @@ fn push_table(
         (table_text unit offset program.now rows.now) }
 {
     push_head(out, unit, offset)?;
-    push_directories(out, program.directories())?;
-    push_files(out, program.files())?;
+    push_names(out, program)?;
     push_rows(out, rows)?;
+    Ok(())
+}
+
+/// Appends the directories and the files of a program.
+#[tactic(auto, unfolding(crate::specs::LineTable::names_text))]
+fn push_names(out: &mut Vec<u8>, program: &LineHeader<'_>) -> Result<(), AllocError>
+    ensures { Adds result out.old.items out.new.items (names_text program.now) }
+{
+    let first = first_number(program.version());
+    push_directories(out, first, program.directories())?;
+    push_files(out, first, program.files())?;
     Ok(())
 }
 

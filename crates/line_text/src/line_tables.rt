@@ -5,7 +5,8 @@ ghost use Rattle.dw_fields.specs.Reading.{IsAddressSize};
 ghost use Rattle.elf_sections.specs.Shapes.{sections_view};
 ghost use Rattle.unit_text.specs.Pieces.{Writes};
 ghost use Rattle.unit_headers.specs.Refusals.{Answers};
-ghost use Rattle.line_text.specs.LineTable.{line_table_text, table_of};
+ghost use Rattle.line_programs.specs.LineTables.{table_of};
+ghost use Rattle.line_text.specs.LineTable.{line_table_text};
 ghost use Rattle.line_text.specs.LastTable.{IsReadAt, IsTableOf, table_view};
 
 use crate::line_table::append_table;
@@ -120,7 +121,7 @@ impl<'f> LineTables<'f> {
     }
 
     /// Reads the table at an offset.
-    #[tactic(auto, unfolding(crate::specs::LineTable::table_of))]
+    #[tactic(auto, unfolding(line_programs::specs::LineTables::table_of))]
     fn read_table(
         &mut self,
         alloc: Global,

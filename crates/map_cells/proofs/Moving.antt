@@ -1,6 +1,5 @@
 -- The steps of moving keep the rule, and tell what their calls ensure.
-use Rattle.std.proofs.Common.{◌≡◌, ◌≢◌, ◌⊎◌, ℕ, ◌+◌, ◌*◌, ◌/◌, ◌%◌, ◌^◌, ◌<◌, ◌≤◌, Bool, true, false, List, [], ◌∷◌, length, set, slice_index, Some, None, if◌then◌else◌, ◌==◌, refl, sym, ap, subst, ◌∙◌, inl, inr, arith, length-set, eq-eqb, ne_eqb, get_or-set_same}
-use Rattle.std.proofs.lemmas.List.{set-get_or}
+use Rattle.std.proofs.Common.{◌≡◌, ◌≢◌, ℕ, ◌+◌, ◌*◌, ◌/◌, ◌%◌, ◌^◌, ◌<◌, ◌≤◌, Bool, true, List, ◌∷◌, length, set, slice_index, Some, None, if◌then◌else◌, ◌==◌, refl, sym, ap, subst, ◌∙◌, inl, inr, arith, length-set, eq-eqb, ne_eqb, get_or-set_same}
 use mathlib.Core.Logic.{dite}
 use mathlib.Core.Option.{some, none}
 use lib.ListN.{get_elem?}
@@ -13,8 +12,8 @@ use Rattle.map_core.specs.declared.layout.Layout.{Layout}
 use Rattle.map_core.specs.declared.view.View.{View}
 use Rattle.map_core.specs.Sizes.{cells_of}
 use Rattle.map_core.specs.History.{value_in, is_in}
-use Rattle.map_core.specs.declared.places.TheConstants.{CURRENT_WORD, COUNT_WORD}
-use Rattle.map_core.specs.Places.{offset, word_count, take_word, key_place, value_place, finish_place, current_in, count_in, takes_in, cells_in, Within, IsCell, IsBlock}
+use Rattle.map_core.specs.declared.places.TheConstants.{CURRENT_WORD}
+use Rattle.map_core.specs.Places.{offset, word_count, take_word, key_place, value_place, finish_place, current_in, count_in, cells_in, Within, IsCell, IsBlock}
 use Rattle.map_core.specs.Machine.{greatest, IsWord, Keeps, state_of, IsPublished, IsMoved, BlockMoved}
 use Rattle.map_core.specs.Events.{Event, seals_key, seals_value, takes, finishes, switches, and_then, WritesWord, IsStep, Lawful}
 use Rattle.map_core.specs.Passes.{look, drop_claim, HasFilled, Turn, PassFacts}
@@ -28,7 +27,7 @@ use Rattle.map_core.proofs.PassLemmas.{keeps_trans}
 use Rattle.map_core.proofs.TurnLemmas.{look_hit, sees_turn, reads_turn, value_turn, seal_turn, finish_turn, passes_turn, rises_turn}
 use Rattle.map_core.proofs.CountLemmas.{in_hit, in_miss, count_le}
 use Rattle.map_core.proofs.FactLemmas.{filled_current}
-use Rattle.map_cells.specs.Steps.{LeavesClaim, CurrentSeen, BlockSeen, KeySealed, ValueSealed, BlockTaken, BlockFinished, Switched}
+use Rattle.map_cells.specs.Steps.{CurrentSeen, KeySealed, ValueSealed, BlockTaken, BlockFinished, Switched}
 use Rattle.map_cells.specs.Rule.{TableHolds, CurrentLooked, BlockLooked, KeyShut, ValueShut, Took, Ended, Left}
 use Rattle.map_cells.proofs.WordSteps.{key_within, value_within, has_take, has_current, same_place, writes_word, first_cells, first_takes, take_cells, take_others, take_is, take_written, take_behind, first_current, first_count, same_take}
 use Rattle.map_cells.proofs.WalkLemmas.{closed_here}
@@ -74,6 +73,14 @@ module _ (fits : List ℕ → ℕ → ℕ → Type 0) (t : Tag) (slots id : ℕ)
           claim = refl;
           same_count = refl;
           generation = refl;
+          moment = record {
+            events = events;
+            at = state_of v.layout ws kept.log;
+            lawful = subst (λ (x : List ℕ). Lawful v.layout (fits x) events (state_of v.layout ws kept.log)) (sym here.tag) lawful;
+            current = refl;
+            history = refl;
+            known = risen_turn.at.knows;
+          };
         }
 
   pub current_allowed : Allows (TableHolds fits (about v t)) slots id (v, c) CURRENT_WORD (λ n. n) (CurrentLooked fits (step slots CURRENT_WORD 0 0 none) (v, c))

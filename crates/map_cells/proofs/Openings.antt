@@ -1,5 +1,5 @@
 -- A table at the start meets the rule, and so does it after a split and after the first step of a join.
-use Rattle.std.proofs.Common.{◌≡◌, ◌≢◌, ℕ, zero, suc, ◌+◌, ◌<◌, List, [], length, slice_index, replicate, None, refl, sym, ap, ◌∙◌, arith}
+use Rattle.std.proofs.Common.{◌≡◌, ◌≢◌, ℕ, zero, suc, ◌+◌, ◌<◌, List, [], length, slice_index, replicate, None, refl, sym, ap, ◌∙◌}
 use Rattle.boxcar.specs.declared.tag.Tag.{Tag}
 use Rattle.atomic_table.proofs.Lists.{set_else}
 use Rattle.atomic_table.specs.Table.{Splits, Joins, opening}

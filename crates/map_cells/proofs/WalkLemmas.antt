@@ -9,7 +9,7 @@ use Rattle.map_core.specs.declared.entry.Entry.{Entry}
 use Rattle.map_core.specs.declared.layout.Layout.{Layout}
 use Rattle.map_core.specs.declared.view.View.{View}
 use Rattle.map_core.specs.Sizes.{cells_of}
-use Rattle.map_core.specs.History.{value_in, is_in, by_any, StartsWith, StartsWithOwn}
+use Rattle.map_core.specs.History.{value_in, is_in, by_any, StartsWithOwn}
 use Rattle.map_core.specs.Places.{key_place, value_place, home, spot, Within, IsCell}
 use Rattle.map_core.specs.Machine.{greatest, IsWord, Passed, Reaches, IsClosed, IsPublished, IsSettled}
 use Rattle.map_core.specs.Passes.{look, drop_claim, PassFacts}

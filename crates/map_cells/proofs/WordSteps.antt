@@ -1,12 +1,12 @@
 -- The words of a table as a list: what one write changes, and how many there are.
-use Rattle.std.proofs.Common.{◌≡◌, ◌≢◌, ℕ, ◌+◌, ◌-◌, ◌*◌, ◌/◌, ◌%◌, ◌^◌, ◌<◌, ◌≤◌, Bool, List, length, set, slice_index, if◌then◌else◌, refl, sym, subst, ◌∙◌, arith, lt-ltb, le-ltb, get_or-set_other, get_or-set_same}
+use Rattle.std.proofs.Common.{◌≡◌, ◌≢◌, ℕ, ◌+◌, ◌*◌, ◌/◌, ◌<◌, ◌≤◌, Bool, List, length, set, slice_index, if◌then◌else◌, refl, sym, subst, ◌∙◌, arith, lt-ltb, le-ltb, get_or-set_other, get_or-set_same}
 use mathlib.Core.Logic.{dite}
-use native.Mathlib.Decide.{ℕ_discrete, dec_lt}
+use native.Mathlib.Decide.{dec_lt}
 use Rattle.map_core.specs.declared.entry.Entry.{Entry}
 use Rattle.map_core.specs.declared.layout.Layout.{Layout}
 use Rattle.map_core.specs.Sizes.{cells_of}
-use Rattle.map_core.specs.declared.places.TheConstants.{CURRENT_WORD, COUNT_WORD, FIRST_TAKE_WORD, FIRST_CELL_WORD}
-use Rattle.map_core.specs.Places.{lowest, base, offset, word_count, take_word, key_place, value_place, finish_place, takes_in, cells_in, Within, IsCell, IsBlock}
+use Rattle.map_core.specs.declared.places.TheConstants.{CURRENT_WORD, COUNT_WORD, FIRST_CELL_WORD}
+use Rattle.map_core.specs.Places.{base, offset, word_count, take_word, key_place, value_place, finish_place, takes_in, cells_in, Within, IsCell}
 use Rattle.map_core.specs.Machine.{state_of}
 use Rattle.map_core.specs.Events.{WritesWord}
 use Rattle.map_core.proofs.SizeLemmas.{last_small, cells_small}

@@ -9,7 +9,7 @@ use Rattle.map_core.specs.Events.{claims, publishes, seals_key, seals_value, cou
 use Rattle.map_core.specs.Calls.{own}
 use Rattle.map_core.specs.Passes.{look, cell, drop_claim, PassFacts}
 use Rattle.map_core.specs.Knowing.{all_but_first}
-use Rattle.map_cells.specs.Whole.{MakesStep, MakesLoad}
+use Rattle.map_cells.specs.Whole.{MakesStep, MakesLoad, WasCurrent}
 
 -- the key is seen closed in each generation from a current one up to below g
 pub record ClosedTo (v : View) (g k : ℕ) : Type 0 where
@@ -72,13 +72,14 @@ module _ (fits : List ℕ → ℕ → ℕ → Type 0) where
     pub counted : w.counted ≡ v.counted
     pub same_count : w.count_seen ≡ v.count_seen
 
-  -- a load of word 0, which found generation n current. What this tells is in the pass's facts
+  -- a load of word 0, which found generation n current at its moment
   pub record CurrentSeen (n : ℕ) (v w : View) : Type 0 where
     pub rises : Rises v w
     pub facts : PassFacts fits w
     pub claim : w.claim ≡ v.claim
     pub same_count : w.count_seen ≡ v.count_seen
     pub generation : w.generation ≡ n
+    pub moment : WasCurrent fits n w
 
   -- a load of the finish word of a block
   pub record BlockSeen (g b n : ℕ) (v w : View) : Type 0 where

@@ -41,6 +41,16 @@ module _ (fits : List ℕ → ℕ → ℕ → Type 0) where
     pub history : w.front ≡ at.history
     pub known : Keeps (look w.known) at.cells
 
+  -- generation g is current at a moment of a lawful list of events, at which the history is the pass's front and all
+  -- words that the pass has seen stand
+  pub record WasCurrent (g : ℕ) (w : View) : Type 0 where
+    pub events : List Event
+    pub at : State
+    pub lawful : Lawful w.layout (fits w.tag) events at
+    pub current : at.current ≡ g
+    pub history : w.front ≡ at.history
+    pub known : Keeps (look w.known) at.cells
+
   -- the table is taken apart, and the count is n
   pub record ClosesTable (c : CellsView) (v : View) (n : ℕ) : Type 0 where
     pub words : List ℕ

@@ -1,14 +1,14 @@
 -- Each entry moves on by a byte at least and stays within the section, and none begins at its end.
-use Rattle.std.specs.Prelude.{◌≡◌, ℕ, ◌+◌, ◌≤◌, List, Option, Result, Ok, Err, refl}
-use Rattle.std.proofs.Common.{ap, arith}
+use Rattle.std.specs.Prelude.{◌≡◌, ℕ, ◌+◌, ◌≤◌, nat_le, Bool, true, false, cond, List, Option, Result, Ok, Err, refl}
+use Rattle.std.proofs.Common.{ap, arith, inl, inr, le-leb}
 use Rattle.std.proofs.lemmas.Bool.{lt-leb}
 use Rattle.dw_fields.specs.declared.fault_code.Fault.{Fault}
 use Rattle.dw_fields.specs.declared.fault_code.Code.{Code}
 use Rattle.dw_fields.specs.declared.fault_code.Code.TheVariants.{Truncated, ListUnended, ListTruncated}
 use Rattle.dw_fields.specs.Codes.{fault}
 use Rattle.dw_fields.specs.Span.{Span, at}
-use Rattle.dw_fields.specs.Reading.{◌>>=◌, bytes_at, number_at, uleb_at, renamed}
-use Rattle.dw_fields.specs.ReaderLaws.{IsPast, bytes_at-past, number_at-past, uleb_at-past}
+use Rattle.dw_fields.specs.Reading.{IsAddressSize, ◌>>=◌, bytes_at, number_at, uleb_at, renamed}
+use Rattle.dw_fields.specs.ReaderLaws.{IsPast, IsPast-less, bytes_at-past, number_at-past, uleb_at-past}
 use Rattle.form_values.specs.View.{AddressIndex}
 use Rattle.form_values.specs.Resolved.{address_of}
 use Rattle.range_lists.specs.declared.kinds.Kind.{Kind}
@@ -17,10 +17,12 @@ use Rattle.range_lists.specs.declared.operands.Operands.{Operands}
 use Rattle.range_lists.specs.declared.operands.Operands.TheVariants.{End, Base, Bounds}
 use Rattle.range_lists.specs.Kinds.{range_kind, location_kind, known_kind, kind_number_at, list_kind_at}
 use Rattle.form_values.specs.Resolved.{refused_at}
-use Rattle.range_lists.specs.Context.{Context}
-use Rattle.range_lists.specs.Operands.{based, number_operand_at, address_operand_at, index_at, startx_endx_at, startx_length_at, offset_pair_at, start_end_at, start_length_at, operands_at}
+use Rattle.range_lists.specs.Context.{Context, has_pairs}
+use Rattle.range_lists.specs.Pairs.{first_address_at, pair_at}
+use Rattle.range_lists.specs.Entry.{entry_operands_at, kind_and_operands_at}
+use Rattle.range_lists.specs.Operands.{based, in_list, number_operand_at, address_operand_at, index_at, startx_endx_at, startx_length_at, offset_pair_at, start_end_at, start_length_at, operands_at}
 use Rattle.range_lists.specs.Ranges.{range_entry_at}
-use Rattle.range_lists.specs.Locations.{expression_at, located, location_entry_at}
+use Rattle.range_lists.specs.Locations.{count_at, expression_at, located, location_entry_at}
 use Rattle.range_lists.specs.ListSteps.{list_at, span_from}
 use Rattle.range_lists.specs.Entries.{IsList}
 use Rattle.range_lists.proofs.EntriesLaws.{IsEntry, list_at-IsList}
@@ -93,51 +95,102 @@ kind_end : (kinds : ℕ → Option Kind) (s : Span) → s.end ≤ s.place → s.
 unfolding list_kind_at kind_number_at number_at bytes_at
 kind_end kinds s past inside = rw (lt-leb (s.place + 1) s.end (omega arith)) (ap (λ place. Err (fault ListUnended place)) (omega arith))
 
-range_past : (c : Context) (base : ℕ) (s : Span) → IsPast 1 s (range_entry_at c base s)
+some_size : (size : ℕ) → IsAddressSize size → 1 ≤ size
+some_size size (inl two) = omega arith
+some_size size (inr (inl four)) = omega arith
+some_size size (inr (inr eight)) = omega arith
+
+first_test : (c : Context) (s : Span) (b : Bool) → IsAddressSize c.size → IsPast 1 s (cond b (Err (fault ListUnended s.place)) (address_operand_at c s))
+unfolding address_operand_at
+first_test c s true sized = tt
+first_test c s false sized = renamed_past 1 Truncated ListTruncated s (number_at c.size s) (IsPast-less c.size 1 s (number_at c.size s) (some_size c.size sized) (number_at-past c.size s))
+
+pair_past : (c : Context) (base : ℕ) (s : Span) → IsAddressSize c.size → IsPast 1 s (pair_at c base s)
+unfolding pair_at first_address_at
+pair_past c base s sized =
+    past_next 1 s (first_address_at c s) _ (first_test c s (nat_le s.end s.place) sized) (λ r low high.
+    past_next 0 (at s r.1) (address_operand_at c (at s r.1)) _ (address_past c (at s r.1)) (λ q _ within. (omega arith, within)))
+
+-- where the section ends no pair stands
+pair_end : (c : Context) (base : ℕ) (s : Span) → s.end ≤ s.place → s.place ≤ s.end → pair_at c base s ≡ Err (fault ListUnended s.end)
+unfolding pair_at first_address_at
+pair_end c base s past inside = rw (le-leb s.end s.place past) (ap (λ place. Err (fault ListUnended place)) (omega arith))
+
+kinded_past : (kinds : ℕ → Option Kind) (c : Context) (base : ℕ) (s : Span) → IsPast 1 s (kind_and_operands_at kinds c base s)
+unfolding kind_and_operands_at
+kinded_past kinds c base s =
+    past_next 1 s (list_kind_at kinds s) _ (kind_past kinds s) (λ k low high. operands_past c base k.0 s.place (at s k.1) high)
+
+kinded_end : (kinds : ℕ → Option Kind) (c : Context) (base : ℕ) (s : Span) → s.end ≤ s.place → s.place ≤ s.end → kind_and_operands_at kinds c base s ≡ Err (fault ListUnended s.end)
+unfolding kind_and_operands_at
+kinded_end kinds c base s past inside = rw (kind_end kinds s past inside) refl
+
+entry_test : (kinds : ℕ → Option Kind) (c : Context) (base : ℕ) (s : Span) (b : Bool) → IsAddressSize c.size → IsPast 1 s (cond b (pair_at c base s) (kind_and_operands_at kinds c base s))
+entry_test kinds c base s true sized = pair_past c base s sized
+entry_test kinds c base s false sized = kinded_past kinds c base s
+
+entry_past : (kinds : ℕ → Option Kind) (c : Context) (base : ℕ) (s : Span) → IsAddressSize c.size → IsPast 1 s (entry_operands_at kinds c base s)
+unfolding entry_operands_at
+entry_past kinds c base s sized = entry_test kinds c base s (has_pairs c.version) sized
+
+end_test : (kinds : ℕ → Option Kind) (c : Context) (base : ℕ) (s : Span) (b : Bool) → s.end ≤ s.place → s.place ≤ s.end → cond b (pair_at c base s) (kind_and_operands_at kinds c base s) ≡ Err (fault ListUnended s.end)
+end_test kinds c base s true past inside = pair_end c base s past inside
+end_test kinds c base s false past inside = kinded_end kinds c base s past inside
+
+entry_end : (kinds : ℕ → Option Kind) (c : Context) (base : ℕ) (s : Span) → s.end ≤ s.place → s.place ≤ s.end → entry_operands_at kinds c base s ≡ Err (fault ListUnended s.end)
+unfolding entry_operands_at
+entry_end kinds c base s past inside = end_test kinds c base s (has_pairs c.version) past inside
+
+range_past : (c : Context) (base : ℕ) (s : Span) → IsAddressSize c.size → IsPast 1 s (range_entry_at c base s)
 unfolding range_entry_at
-range_past c base s =
-    past_next 1 s (list_kind_at range_kind s) _ (kind_past range_kind s) (λ k low high.
-    past_next 0 (at s k.1) (operands_at c base k.0 s.place (at s k.1)) _ (operands_past c base k.0 s.place (at s k.1) high) (λ o _ within. (omega arith, within)))
+range_past c base s sized =
+    past_next 1 s (entry_operands_at range_kind c base s) _ (entry_past range_kind c base s sized) (λ o _ within. (omega arith, within))
 
 range_end : (c : Context) (base : ℕ) (s : Span) → s.end ≤ s.place → s.place ≤ s.end → range_entry_at c base s ≡ Err (fault ListUnended s.end)
 unfolding range_entry_at
-range_end c base s past inside = rw (kind_end range_kind s past inside) refl
+range_end c base s past inside = rw (entry_end range_kind c base s past inside) refl
 
-pub range_entries : (c : Context) → IsEntry (range_entry_at c)
-range_entries c = record { moves = range_past c; ends = range_end c }
+pub range_entries : (c : Context) → IsAddressSize c.size → IsEntry (range_entry_at c)
+range_entries c sized = record { moves = λ base s. range_past c base s sized; ends = range_end c }
 
-expression_past : (s : Span) → IsPast 0 s (expression_at s)
+count_test : (c : Context) (s : Span) (b : Bool) → IsPast 0 s (cond b (in_list (number_at 2 s)) (number_operand_at s))
+count_test c s true = renamed_past 0 Truncated ListTruncated s (number_at 2 s) (IsPast-less 2 0 s (number_at 2 s) (omega arith) (number_at-past 2 s))
+count_test c s false = number_past s
+
+count_past : (c : Context) (s : Span) → IsPast 0 s (count_at c s)
+unfolding count_at
+count_past c s = count_test c s (has_pairs c.version)
+
+expression_past : (c : Context) (s : Span) → IsPast 0 s (expression_at c s)
 unfolding expression_at
-expression_past s =
-    past_next 0 s (number_operand_at s) _ (number_past s) (λ n low high.
+expression_past c s =
+    past_next 0 s (count_at c s) _ (count_past c s) (λ n low high.
     renamed_past 0 Truncated ListTruncated (at s n.1) (bytes_at n.0 (at s n.1)) (less_past n.0 (at s n.1) (bytes_at n.0 (at s n.1)) (bytes_at-past n.0 (at s n.1))))
 
-located_past : (base : ℕ) (operands : Operands) (s : Span) → s.place ≤ s.end → IsPast 0 s (located base operands s)
+located_past : (c : Context) (base : ℕ) (operands : Operands) (s : Span) → s.place ≤ s.end → IsPast 0 s (located c base operands s)
 unfolding located
-located_past base End s inside = (omega arith, inside)
-located_past base (Base address) s inside = (omega arith, inside)
-located_past base (Bounds range) s inside = past_next 0 s (expression_at s) _ (expression_past s) (λ e _ within. (omega arith, within))
+located_past c base End s inside = (omega arith, inside)
+located_past c base (Base address) s inside = (omega arith, inside)
+located_past c base (Bounds range) s inside = past_next 0 s (expression_at c s) _ (expression_past c s) (λ e _ within. (omega arith, within))
 
-location_past : (c : Context) (base : ℕ) (s : Span) → IsPast 1 s (location_entry_at c base s)
+location_past : (c : Context) (base : ℕ) (s : Span) → IsAddressSize c.size → IsPast 1 s (location_entry_at c base s)
 unfolding location_entry_at
-location_past c base s =
-    past_next 1 s (list_kind_at location_kind s) _ (kind_past location_kind s) (λ k low high.
-    past_next 0 (at s k.1) (operands_at c base k.0 s.place (at s k.1)) _ (operands_past c base k.0 s.place (at s k.1) high) (λ o _ within.
-    located_past base o.0 (at s o.1) within))
+location_past c base s sized =
+    past_next 1 s (entry_operands_at location_kind c base s) _ (entry_past location_kind c base s sized) (λ o _ within. located_past c base o.0 (at s o.1) within)
 
 location_end : (c : Context) (base : ℕ) (s : Span) → s.end ≤ s.place → s.place ≤ s.end → location_entry_at c base s ≡ Err (fault ListUnended s.end)
 unfolding location_entry_at
-location_end c base s past inside = rw (kind_end location_kind s past inside) refl
+location_end c base s past inside = rw (entry_end location_kind c base s past inside) refl
 
-pub location_entries : (c : Context) → IsEntry (location_entry_at c)
-location_entries c = record { moves = location_past c; ends = location_end c }
+pub location_entries : (c : Context) → IsAddressSize c.size → IsEntry (location_entry_at c)
+location_entries c sized = record { moves = λ base s. location_past c base s sized; ends = location_end c }
 
 from_inside : (section : List ℕ) (order : Order) (offset : ℕ) → (span_from section order offset).place ≤ (span_from section order offset).end
 unfolding span_from
 from_inside section order offset = omega arith
 
-pub range_list-IsList : (c : Context) (base : ℕ) (section : List ℕ) (order : Order) (offset : ℕ) → IsList (range_entry_at c) base (span_from section order offset) (list_at (range_entry_at c) base (span_from section order offset))
-range_list-IsList c base section order offset = list_at-IsList (range_entry_at c) (range_entries c) base (span_from section order offset) (from_inside section order offset)
+pub range_list-IsList : (c : Context) → IsAddressSize c.size → (base : ℕ) (section : List ℕ) (order : Order) (offset : ℕ) → IsList (range_entry_at c) base (span_from section order offset) (list_at (range_entry_at c) base (span_from section order offset))
+range_list-IsList c sized base section order offset = list_at-IsList (range_entry_at c) (range_entries c sized) base (span_from section order offset) (from_inside section order offset)
 
-pub location_list-IsList : (c : Context) (base : ℕ) (section : List ℕ) (order : Order) (offset : ℕ) → IsList (location_entry_at c) base (span_from section order offset) (list_at (location_entry_at c) base (span_from section order offset))
-location_list-IsList c base section order offset = list_at-IsList (location_entry_at c) (location_entries c) base (span_from section order offset) (from_inside section order offset)
+pub location_list-IsList : (c : Context) → IsAddressSize c.size → (base : ℕ) (section : List ℕ) (order : Order) (offset : ℕ) → IsList (location_entry_at c) base (span_from section order offset) (list_at (location_entry_at c) base (span_from section order offset))
+location_list-IsList c sized base section order offset = list_at-IsList (location_entry_at c) (location_entries c sized) base (span_from section order offset) (from_inside section order offset)

@@ -1,6 +1,8 @@
 pub mod Kinds
 pub mod Context
 pub mod Operands
+pub mod Pairs
+pub mod Entry
 pub mod ListSteps
 pub mod Ranges
 pub mod Locations

@@ -136,7 +136,7 @@ pub(crate) fn in_list<T>(read: Result<T, Fault>) -> Result<T, Fault>
 
 /// The sum of an address and a number, at the unit's address size.
 #[inline]
-fn sum(address: u64, number: u64, size: u8) -> u64
+pub(crate) fn sum(address: u64, number: u64, size: u8) -> u64
     requires { IsAddressSize size }
     ensures { result ≡ wrapped_address size (address + number) }
 {
@@ -153,7 +153,7 @@ pub(crate) fn number(cut: &mut Cut) -> Result<u64, Fault>
 
 /// An address.
 #[tactic(auto, unfolding(crate::specs::Operands::address_operand_at))]
-fn address(cut: &mut Cut, unit: &UnitContext<'_, '_>) -> Result<u64, Fault>
+pub(crate) fn address(cut: &mut Cut, unit: &UnitContext<'_, '_>) -> Result<u64, Fault>
     requires { IsAddressSize unit.now.header.now.address_size }
     ensures { Reads (λ x. x) result (address_operand_at (context_view unit.now)) cut.old cut.new }
 {

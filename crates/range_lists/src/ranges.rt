@@ -5,29 +5,29 @@ ghost use Rattle.elf_sections.specs.Shapes.{sections_view};
 ghost use Rattle.unit_headers.specs.Refusals.{Answers};
 ghost use Rattle.range_lists.specs.declared.bounds.Range.{Range};
 ghost use Rattle.range_lists.specs.ListSteps.{step_view};
-ghost use Rattle.range_lists.specs.Ranges.{ranges_of, range_entry_at, step_behind};
+ghost use Rattle.range_lists.specs.Ranges.{ranges_of, range_entry_at, range_section, step_behind};
 
 use crate::bounds::Range;
-use crate::context::UnitContext;
-use crate::kinds::read_range_kind;
+use crate::context::{UnitContext, has_pairs};
+use crate::entry::read_range_operands;
 use crate::list_step::ListStep;
 use crate::lists::{Listed, list_cut, read_list};
-use crate::operands::{Operands, read_operands};
+use crate::operands::Operands;
 use dw_fields::{Code, Cut, Fault};
 use elf_sections::Sections;
 use form_values::UnitFacts;
 use std::alloc::Global;
 use unit_headers::{UnitHeader, UnitRefusal};
 
-/// The ranges of the list at `offset` in `.debug_rnglists`, in their order, empty ones too. The base
-/// of its offsets is the unit's lowest address, or 0 where it has none, up to the first entry that
-/// sets another.
+/// The ranges of the list at `offset` in `.debug_rnglists`, or in `.debug_ranges` for a unit of
+/// version 4, in their order, empty ones too. The base of its offsets is the unit's lowest address, or
+/// 0 where it has none, up to the first entry that sets another.
 ///
 /// # Errors
 /// The first of these in the order of reading.
-/// - `NoSection` at 0: there is no `.debug_rnglists`.
-/// - `ListUnended` at the section's length: the section ends where a kind should stand, or the offset
-///   is at or past its end.
+/// - `NoSection` at 0: there is no such section.
+/// - `ListUnended` at the section's length: the section ends where a kind or a pair should stand, or
+///   the offset is at or past its end.
 /// - `ListKind` at the kind: no kind has this number.
 /// - `ListTruncated` at an operand that passes the section's end, `LebTooLarge` at one that 64 bits
 ///   don't hold.
@@ -44,9 +44,10 @@ pub fn read_ranges(
 ) -> Result<Vec<Range>, UnitRefusal>
     requires { IsAddressSize header.now.address_size }
     ensures { Answers (λ ranges. ranges.items)
-        result (ranges_of (sections_view sections.now) header.now.address_size facts.now offset) }
+        result (ranges_of (sections_view sections.now)
+        header.now.version header.now.address_size facts.now offset) }
 {
-    let Some(section) = sections.range_lists else {
+    let Some(section) = range_section(sections, header.version) else {
         return Err(UnitRefusal::Refused(Fault::at(Code::NoSection, 0)));
     };
     let unit = UnitContext {
@@ -56,6 +57,18 @@ pub fn read_ranges(
     };
     let cut = list_cut(section, sections.order, offset);
     read_list(alloc, &unit, cut, facts.low_pc.unwrap_or(0))
+}
+
+/// The section of the range lists of units of this version.
+#[tactic(auto, unfolding(crate::specs::Ranges::range_section))]
+fn range_section<'f>(sections: &Sections<'f>, version: u16) -> Option<&'f [u8]>
+    ensures { option_map (λ b. b.now) result
+        ≡ range_section (sections_view sections.entry.now) version }
+{
+    if has_pairs(version) {
+        return sections.ranges;
+    }
+    sections.range_lists
 }
 
 impl<'f> Listed<'f> for Range {
@@ -71,9 +84,7 @@ impl<'f> Listed<'f> for Range {
         unit: &UnitContext<'_, '_>,
         base: u64,
     ) -> Result<Option<ListStep<Range>>, Fault> {
-        let place = cut.place();
-        let kind = read_range_kind(cut)?;
-        let operands = read_operands(cut, unit, base, kind, place)?;
+        let operands = read_range_operands(cut, unit, base)?;
         Ok(step_of(base, operands))
     }
 }

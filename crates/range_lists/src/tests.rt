@@ -1,4 +1,5 @@
-//! Small lists: every kind once in both sections, and every refusal once with its place.
+//! Small lists: every kind once in both sections, pairs of version 4, and every refusal once with its
+//! place.
 
 ghost use Rattle.std.specs.Prelude.{◌≡◌};
 
@@ -13,7 +14,7 @@ use unit_headers::{Extra, UnitHeader, UnitKind, UnitRefusal};
 /// The addresses 0x1000 and 0x2000.
 const ADDRESSES: [u8; 16] = [0, 0x10, 0, 0, 0, 0, 0, 0, 0, 0x20, 0, 0, 0, 0, 0, 0];
 
-/// Sections of which both list sections hold these bytes.
+/// Sections of which both list sections of version 5 hold these bytes.
 fn sections_of<'f>(lists: Option<&'f [u8]>, address: Option<&'f [u8]>) -> Sections<'f> {
     Sections {
         order: Order::Little,
@@ -32,7 +33,16 @@ fn sections_of<'f>(lists: Option<&'f [u8]>, address: Option<&'f [u8]>) -> Sectio
     }
 }
 
-fn header_of(address_size: u8) -> UnitHeader
+/// Sections of which both list sections of version 4 hold these bytes.
+fn pair_sections_of<'f>(lists: &'f [u8]) -> Sections<'f> {
+    Sections {
+        ranges: Some(lists),
+        locations: Some(lists),
+        ..sections_of(None, None)
+    }
+}
+
+fn header_of(version: u16, address_size: u8) -> UnitHeader
     ensures { result.address_size ≡ address_size }
 {
     UnitHeader {
@@ -40,7 +50,7 @@ fn header_of(address_size: u8) -> UnitHeader
         place: 0,
         end: 12,
         wide: false,
-        version: 5,
+        version,
         kind: UnitKind::Compile,
         address_size,
         abbrev: 0,
@@ -173,10 +183,45 @@ const LOCATIONS: [(&[u8], &str); 16] = [
     (&[2, 2, 0x80], "refusal 44 at 0"),
 ];
 
+/// The lists of a unit of version 4 with 2-byte addresses whose lowest address is 0x100.
+const RANGE_PAIRS: [(&[u8], u64, &str); 13] = [
+    (&[0, 0, 0, 0], 0, ""),
+    (&[1, 0, 2, 0, 0, 0, 0, 0], 0, "101-102 "),
+    (&[0, 0, 2, 0, 0, 0, 0, 0], 0, "100-102 "),
+    (
+        &[1, 0, 2, 0, 255, 255, 0, 32, 0, 0, 8, 0, 0, 0, 0, 0],
+        0,
+        "101-102 2000-2008 ",
+    ),
+    (&[0, 255, 1, 255, 5, 0, 5, 0, 0, 0, 0, 0], 0, "0-1 105-105 "),
+    (&[9, 9, 1, 0, 2, 0, 0, 0, 0, 0, 9], 2, "101-102 "),
+    (&[], 0, "refusal 62 at 0"),
+    (&[0, 0, 0, 0], 4, "refusal 62 at 4"),
+    (&[1, 0, 2, 0], 0, "refusal 62 at 4"),
+    (&[1], 0, "refusal 61 at 0"),
+    (&[0, 0], 0, "refusal 61 at 2"),
+    (&[1, 0, 2], 0, "refusal 61 at 2"),
+    (&[255, 255, 0], 0, "refusal 61 at 2"),
+];
+
+const LOCATION_PAIRS: [(&[u8], &str); 8] = [
+    (&[0, 0, 0, 0], ""),
+    (&[0, 0, 4, 0, 1, 0, 0x50, 0, 0, 0, 0], "100-104:50 "),
+    (
+        &[255, 255, 0, 32, 0, 0, 1, 0, 0, 0, 0, 0, 0, 0],
+        "2000-2001 ",
+    ),
+    (&[1, 0, 2, 0], "refusal 61 at 4"),
+    (&[1, 0, 2, 0, 1], "refusal 61 at 4"),
+    (&[1, 0, 2, 0, 2, 0, 0x9c], "refusal 61 at 6"),
+    (&[1, 0, 2, 0, 0, 0], "refusal 62 at 6"),
+    (&[1, 0, 2], "refusal 61 at 2"),
+];
+
 #[test]
 fn small_range_lists(rt: HostRuntime) -> Result<(), Fail> {
     let alloc = rt.alloc();
-    let header = header_of(8);
+    let header = header_of(5, 8);
     let facts = facts_of(Some(0x100), Some(0));
     for (list, offset, expected) in RANGES {
         let sections = sections_of(Some(list), Some(&ADDRESSES));
@@ -190,7 +235,7 @@ fn small_range_lists(rt: HostRuntime) -> Result<(), Fail> {
 #[test]
 fn small_location_lists(rt: HostRuntime) -> Result<(), Fail> {
     let alloc = rt.alloc();
-    let header = header_of(8);
+    let header = header_of(5, 8);
     let facts = facts_of(Some(0x100), Some(0));
     for (list, expected) in LOCATIONS {
         let sections = sections_of(Some(list), Some(&ADDRESSES));
@@ -202,9 +247,33 @@ fn small_location_lists(rt: HostRuntime) -> Result<(), Fail> {
 }
 
 #[test]
+fn pairs_of_version_4(rt: HostRuntime) -> Result<(), Fail> {
+    let alloc = rt.alloc();
+    let header = header_of(4, 2);
+    let facts = facts_of(Some(0x100), None);
+    for (list, offset, expected) in RANGE_PAIRS {
+        let sections = pair_sections_of(list);
+        let read = read_ranges(alloc, &sections, &header, &facts, offset);
+        let text = ranges_text(alloc, read)?;
+        assert_eq!(rt; text.as_str(), expected);
+    }
+    for (list, expected) in LOCATION_PAIRS {
+        let sections = pair_sections_of(list);
+        let read = read_locations(alloc, &sections, &header, &facts, 0);
+        let text = locations_text(alloc, read)?;
+        assert_eq!(rt; text.as_str(), expected);
+    }
+    let sections = sections_of(Some(&[0]), None);
+    let read = read_ranges(alloc, &sections, &header, &facts, 0);
+    let text = ranges_text(alloc, read)?;
+    assert_eq!(rt; text.as_str(), "refusal 47 at 0");
+    Ok(())
+}
+
+#[test]
 fn units_of_other_kinds(rt: HostRuntime) -> Result<(), Fail> {
     let alloc = rt.alloc();
-    let header = header_of(4);
+    let header = header_of(5, 4);
     let pair: &[u8] = &[4, 1, 2, 0];
     let index: &[u8] = &[1, 0, 0];
     for (lists, address, low_pc, base, expected) in [

@@ -6,7 +6,7 @@
 //! that covers it, in the order of units and rows (`specs/Rows.antt`). Rows may go backwards, and
 //! sequences may overlap. [`RowIndex::build`] keeps each row once, and takes time in the order of
 //! `n log n` on any input; [`RowIndex::find`] bisects twice and takes no memory. Promised: what it
-//! answers is what a walk over all rows finds.
+//! answers is what a walk over all rows finds, as [`RowIndex::find_slowly`] does.
 #![tactic(auto)]
 
 mod row_index;
@@ -14,6 +14,7 @@ mod rows;
 mod runs;
 #[cfg(test)]
 mod tests;
+mod walking;
 
 pub use row_index::RowIndex;
 pub use rows::KeptRow;

@@ -5,6 +5,7 @@ ghost use Rattle.row_index.specs.Rows.{found_in};
 
 use crate::rows::KeptRow;
 use crate::runs::{Run, intervals_of, row_of, runs_of};
+use crate::walking::first_found;
 use interval_index::IntervalIndex;
 use std::alloc::{AllocError, Global};
 use std::marker::Model;
@@ -46,13 +47,6 @@ impl RowIndex {
         Ok(RowIndex { units, runs, index })
     }
 
-    /// The rows of each unit, as they were given.
-    pub fn units(&self) -> &[Vec<KeptRow>]
-        ensures { map (λ v. v.items) result.now ≡ self.now }
-    {
-        &self.units
-    }
-
     /// The first unit, counted from 0, that has a row to which `address` belongs, with the first such
     /// row; or `None` where no unit has one. No memory is taken.
     pub fn find(&self, address: u64) -> Option<(usize, KeptRow)>
@@ -62,5 +56,12 @@ impl RowIndex {
             Some(number) => row_of(&self.units, &self.runs[number], address),
             None => None,
         }
+    }
+
+    /// The same, found by a walk over all rows.
+    pub fn find_slowly(&self, address: u64) -> Option<(usize, KeptRow)>
+        ensures { result ≡ found_in self.now address }
+    {
+        first_found(&self.units, address)
     }
 }

@@ -2,10 +2,12 @@
 
 ghost use Rattle.std.specs.Prelude.{◌≡◌, ◌<◌, ◌≤◌, ◌&&◌, ℕ, take, drop, not, length, nat_le, nat_lt};
 ghost use Rattle.std.specs.Option.{option_or};
+ghost use Rattle.row_index.specs.Kept.{kept_row};
 ghost use Rattle.row_index.specs.Rows.{covers, row_at};
 ghost use Rattle.row_index.specs.Runs.{Rises, breaks, interval_of};
 
 use interval_index::Interval;
+use line_machine::{OfRow, Row};
 
 /// What an index keeps of a row of the line table (DWARF 5 section 6.2.2).
 #[derive(Clone, Copy, Debug, PartialEq, Eq)]
@@ -18,6 +20,22 @@ pub struct KeptRow {
     pub file: u32,
     /// Whether the address is the first behind a sequence of instructions.
     pub end: bool,
+}
+
+impl OfRow for KeptRow {
+    ghost use Rattle.row_index.specs.Kept.{kept_row};
+
+    ghost kept = { kept_row };
+
+    #[inline]
+    fn of_row(row: &Row) -> KeptRow {
+        KeptRow {
+            address: row.address,
+            line: row.line,
+            file: row.file.min(u64::from(u32::MAX)) as u32,
+            end: row.end,
+        }
+    }
 }
 
 /// Whether a run ends behind `row`, so that no address is between it and the next one.

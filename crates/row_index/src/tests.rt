@@ -30,7 +30,6 @@ fn the_first_pair_in_unit_and_row_order_is_found(rt: HostRuntime) {
     ];
     let units = vec![in rt.alloc(); first.expect(&rt, "rows"), second.expect(&rt, "rows")];
     let index = RowIndex::build(rt.alloc(), units.expect(&rt, "units")).expect(&rt, "memory");
-    assert_eq!(rt; index.units().len(), 2);
     for (address, found) in [
         (0, Some((1, 8))),
         (3, Some((1, 8))),
@@ -55,5 +54,6 @@ fn the_first_pair_in_unit_and_row_order_is_found(rt: HostRuntime) {
             index.find(address).map(|found| (found.0, found.1.line)),
             found
         );
+        assert_eq!(rt; index.find_slowly(address), index.find(address));
     }
 }

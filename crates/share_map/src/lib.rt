@@ -11,8 +11,6 @@
 
 mod answers;
 mod table;
-#[cfg(test)]
-mod tests;
 
 pub use answers::{Full, Kept, Shape};
 pub use map_cells::{AnyPair, Facts, Pass};

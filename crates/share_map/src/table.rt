@@ -10,6 +10,7 @@ ghost use Rattle.map_cells.specs.Seen.{IsOf, Continues, Follows};
 ghost use Rattle.map_cells.specs.Passing.{IsSplit, IsJoined};
 ghost use Rattle.map_cells.specs.Steps.{Rises};
 ghost use Rattle.map_cells.specs.Walks.{Walks};
+ghost use Rattle.map_cells.specs.Whole.{WasCurrent};
 ghost use Rattle.share_map.specs.Answers.{IsNew, HasRoom, Inserts, PutTogether};
 ghost use Rattle.share_map.specs.declared.answers.Kept.TheVariants.{Found};
 
@@ -22,7 +23,7 @@ use std::marker::Model;
 /// A map from keys to values that threads share without locks.
 #[derive(Drop)]
 pub struct Table<F: Facts> {
-    pub(crate) cells: Cells<F>,
+    cells: Cells<F>,
 }
 
 impl<F: Facts> Model for Table<F> {
@@ -49,6 +50,13 @@ impl<F: Facts> Table<F> {
         let layout = Layout::of(capacity, passes);
         let (cells, pass) = Cells::new(alloc, layout, passes, facts)?;
         Ok((Table { cells }, pass))
+    }
+
+    /// The cells of the table, for single steps of `map_cells` beside its calls.
+    pub fn cells(&self) -> &Cells<F>
+        ensures { result.now ≡ self.now }
+    {
+        &self.cells
     }
 
     /// The value of a key, or that it has none. It looks in the pass's own generation first.
@@ -204,7 +212,7 @@ impl<F: Facts> Table<F> {
         self.cells.join(into, from)
     }
 
-    /// The generation that the table is in.
+    /// The generation that the table is in: the one that this call found current.
     pub fn shape(&self, pass: &mut Pass<F>) -> Shape
         requires of { IsOf self.now pass.old }
         requires rest { AtRest pass.old.knows }
@@ -214,15 +222,17 @@ impl<F: Facts> Table<F> {
         ensures follows { Follows pass.old pass.new }
         ensures own { own pass.new.knows ≡ own pass.old.knows }
         ensures risen { pass.old.knows.generation ≤ result.generation }
+        // it is current where the pass's front, as the call leaves it, is the whole history
+        ensures current { WasCurrent F.fits result.generation pass.new.knows }
         ensures cells { result.cells ≡ cells_of result.generation }
         ensures last { IsTrue result.last ↔ (result.generation ≡ self.now.layout.last) }
     {
-        let generation = self.cells.current(pass);
+        let current = self.cells.current(pass);
         let layout = self.cells.layout();
         Shape {
-            generation,
-            cells: layout.cells(generation),
-            last: generation == layout.last,
+            generation: current,
+            cells: layout.cells(current),
+            last: current == layout.last,
         }
     }
 }

@@ -1,3 +1,1 @@
-pub mod HomeLemmas
-pub mod StateLemmas
 pub mod CallListLemmas

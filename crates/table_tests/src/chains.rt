@@ -3,10 +3,10 @@
 ghost use Rattle.std.specs.Prelude.{◌≡◌, ◌≢◌, ◌+◌, ◌<◌, ◌≤◌, [], ◌∷◌, length};
 ghost use Rattle.map_core.specs.Calls.{own};
 ghost use Rattle.map_core.specs.Machine.{IsWord};
-ghost use Rattle.map_cells.specs.Seen.{Follows};
 ghost use Rattle.table_tests.specs.States.{Idle};
 ghost use Rattle.table_tests.specs.CallLists.{placed_count};
 
+use crate::calls::{Call, check_calls, split};
 use crate::sum_pairs::PairsOfSum;
 use map_cells::TagOfFacts;
 use map_core::calls_in_order;
@@ -23,59 +23,19 @@ fn value_of(sum: u64, key: u64) -> u64
     sum - key
 }
 
-// Calls in a row, with two splits and two joins among them.
+// Calls in a row, with a split and a join among them.
 fn make_calls(table: &Table<PairsOfSum>, pass: &mut Pass<PairsOfSum>, sum: u64)
-    requires idle { Idle table.now pass.old }
-    requires spare { 1 < pass.old.knows.spare }
-    requires tag { table.now.tag ≡ sum ∷ [] }
-    requires sum { (100 < sum) × (sum ≤ 1000) }
-    ensures idle { Idle table.now pass.new }
-    ensures spare { pass.new.knows.spare + 2 ≡ pass.old.knows.spare }
-{
-    let five = value_of(sum, 5);
-    let _ = table.insert(pass, 5, five);
-    let _ = table.find(pass, 5);
-    let _ = table.shape(pass);
-    let mut second = table.split(pass);
-    let six = value_of(sum, 6);
-    let _ = table.insert(&mut second, 6, six);
-    let _ = table.find(&mut second, 5);
-    let _ = table.find(pass, 6);
-    table.join(pass, second);
-    let mut third = table.split(pass);
-    let _ = table.find(&mut third, 7);
-    table.join(pass, third);
-    let _ = table.find(pass, 6);
-}
-
-// Calls in a loop, and a split behind it.
-fn make_many_calls(table: &Table<PairsOfSum>, pass: &mut Pass<PairsOfSum>, sum: u64)
     requires idle { Idle table.now pass.old }
     requires spare { 0 < pass.old.knows.spare }
     requires tag { table.now.tag ≡ sum ∷ [] }
     requires sum { (100 < sum) × (sum ≤ 1000) }
     ensures { Idle table.now pass.new }
 {
-    for key in 1..50 {
-        let value = value_of(sum, key);
-        let _ = table.insert(pass, key, value);
-        let _ = table.find(pass, key);
-        let _ = table.find(pass, key + 50);
-    }
-    let other = table.split(pass);
+    let mut other = table.split(pass);
+    let six = value_of(sum, 6);
+    let _ = table.insert(&mut other, 6, six);
     table.join(pass, other);
-}
-
-// A pass that many finds leave follows the one that it was.
-#[tactic(auto, using(map_cells::specs::FollowLaws::follows_then))]
-fn find_many(table: &Table<PairsOfSum>, pass: &mut Pass<PairsOfSum>)
-    requires idle { Idle table.now pass.old }
-    ensures idle { Idle table.now pass.new }
-    ensures follows { Follows pass.old pass.new }
-{
-    for key in 1..50 {
-        let _ = table.find(pass, key);
-    }
+    let _ = table.find(pass, 6);
 }
 
 #[test]
@@ -83,12 +43,7 @@ fn chains_of_calls_need_no_test_at_run_time(rt: HostRuntime) -> Result<(), Fail>
     let facts = PairsOfSum { sum: 500 };
     let (table, mut pass) = Table::new(rt.alloc(), 100, 4, &facts)?;
     make_calls(&table, &mut pass, 500);
-    find_many(&table, &mut pass);
-    make_many_calls(&table, &mut pass, 500);
     assert_eq!(rt; table.find(&mut pass, 6), Some(494));
-    assert_eq!(rt; table.find(&mut pass, 49), Some(451));
-    assert_eq!(rt; table.find(&mut pass, 50), None);
-    assert_eq!(rt; pass.placed(), 49);
     Ok(())
 }
 
@@ -121,14 +76,17 @@ fn insert_find_join(
 #[test]
 fn a_join_puts_own_entries_together(rt: HostRuntime) -> Result<(), Fail> {
     let (table, mut a) = Table::new(rt.alloc(), 100, 2, &AnyPair)?;
-    let mut b = table.split(&mut a);
-    let _ = table.insert(&mut b, 5, 7);
-    let _ = table.insert(&mut b, 6, 8);
-    let _ = table.insert(&mut a, 7, 9);
-    assert_eq!(rt;
-        insert_find_join(&table, &mut a, b, 8, 10),
-        Ok(Kept::Placed)
+    let mut b = split(&rt, &table, &mut a);
+    check_calls(
+        &rt,
+        &table,
+        &mut b,
+        &[Call::Places(5, 7), Call::Places(6, 8)],
     );
-    assert_eq!(rt; a.placed(), 4);
+    check_calls(&rt, &table, &mut a, &[Call::Places(7, 9)]);
+    assert!(rt; b.number() != 0);
+    let answer = insert_find_join(&table, &mut a, b, 8, 10);
+    assert!(rt; answer == Ok(Kept::Placed));
+    check_calls(&rt, &table, &mut a, &[Call::HasPlaced(4)]);
     Ok(())
 }

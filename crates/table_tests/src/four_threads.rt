@@ -1,13 +1,14 @@
-//! Four threads that insert overlapping keys.
-ghost use Rattle.std.specs.Prelude.{◌≢◌, ◌<◌, ◌≤◌};
-ghost use Rattle.table_tests.specs.States.{Idle, SameNumbers};
+//! Two and four threads that insert overlapping keys, while the table grows.
+ghost use Rattle.std.specs.Prelude.{◌<◌};
+ghost use Rattle.table_tests.specs.States.{Idle};
 
+use crate::calls::{find, insert, join, split};
 use crate::start::meet;
 use share_map::{AnyPair, Full, Kept, Pass, Table};
 use std::process::Abort;
 use std::sync::atomic::AtomicU64;
 use std::test::Fail;
-use std::thread::{Threads, join};
+use std::thread::{self, Threads};
 
 // How many keys a worker inserts.
 const EACH: usize = 70;
@@ -19,57 +20,56 @@ struct WorkerValues {
     values: [u64; EACH],
 }
 
-// The number of a worker's first key: 1, 11, 21, 31. The four of them insert the keys of number 1 to 100.
-fn first_number(worker: u64) -> u64
-    requires { worker < 4 }
-    ensures above { 0 < result }
-    ensures below { result ≤ 31 }
-{
-    10 * worker + 1
+// The number of a worker's i-th key. The workers begin at 1, 11, 21 and 31; the four of them insert the keys of number 1
+// to 100, and the first two those of number 1 to 80.
+fn number_of(worker: u64, i: usize) -> u64 {
+    worker
+        .wrapping_mul(10)
+        .wrapping_add(1)
+        .wrapping_add(i as u64)
 }
 
 // The key of a number. Each two keys in a row have the same home or homes next to one another.
-fn key_of(number: u64) -> u64
-    requires within { (1 ≤ number) × (number ≤ 100) }
-    ensures above { 0 < result }
-    ensures below { result ≤ 23300 }
-{
-    233 * number
+fn key_of(number: u64) -> u64 {
+    number.wrapping_mul(233)
 }
 
 // What a worker offers for a key.
-fn offer_of(worker: u64, key: u64) -> u64
-    requires worker { worker < 4 }
-    requires key { key ≤ 23300 }
-    ensures above { 0 < result }
-    ensures below { result ≤ 423300 }
-{
-    100000 * (worker + 1) + key
+fn offer_of(worker: u64, key: u64) -> u64 {
+    worker
+        .wrapping_add(1)
+        .wrapping_mul(100000)
+        .wrapping_add(key)
 }
 
-// Inserts the keys of a worker once all four threads run.
+// The value that a key has behind an insert of this offer, or 0 where there is no room.
+fn learn(table: &Table<AnyPair>, pass: &mut Pass<AnyPair>, key: u64, offer: u64) -> u64
+    requires { Idle table.now pass.old }
+    ensures { Idle table.now pass.new }
+{
+    match insert(table, pass, key, offer) {
+        Ok(Kept::Placed) => offer,
+        Ok(Kept::Found(value)) => value,
+        Err(Full) => 0,
+    }
+}
+
+// Inserts the keys of a worker once all threads run.
 fn offer_all(
     table: &Table<AnyPair>,
     arrived: &AtomicU64,
+    threads: u64,
     mut pass: Pass<AnyPair>,
     worker: u64,
 ) -> WorkerValues
-    requires idle { Idle table.now pass }
-    requires worker { worker < 4 }
-    ensures idle { Idle table.now result.pass }
-    ensures numbers { SameNumbers pass result.pass }
+    requires { Idle table.now pass }
+    ensures { Idle table.now result.pass }
 {
-    let first = first_number(worker);
     let mut values = [0; EACH];
-    meet(arrived, 4);
+    meet(arrived, threads);
     for i in 0..EACH {
-        let key = key_of(first + i as u64);
-        let offer = offer_of(worker, key);
-        values[i] = match table.insert(&mut pass, key, offer) {
-            Ok(Kept::Placed) => offer,
-            Ok(Kept::Found(value)) => value,
-            Err(Full) => 0,
-        };
+        let key = key_of(number_of(worker, i));
+        values[i] = learn(table, &mut pass, key, offer_of(worker, key));
     }
     WorkerValues { pass, values }
 }
@@ -79,6 +79,7 @@ fn run_two_workers<R: Threads>(
     rt: &R,
     table: &Table<AnyPair>,
     arrived: &AtomicU64,
+    threads: u64,
     one: Pass<AnyPair>,
     other: Pass<AnyPair>,
     worker: u64,
@@ -86,19 +87,19 @@ fn run_two_workers<R: Threads>(
     requires one { Idle table.now one }
     requires other { Idle table.now other }
     requires worker { worker < 3 }
-    ensures first { Idle table.now result.0.pass × SameNumbers one result.0.pass }
-    ensures second { Idle table.now result.1.pass × SameNumbers other result.1.pass }
+    ensures first { Idle table.now result.0.pass }
+    ensures second { Idle table.now result.1.pass }
 {
-    join(
+    thread::join(
         rt,
         move || -> WorkerValues
-            requires { Idle table.now one × (worker < 3) }
-            ensures { Idle table.entry.now result.pass × SameNumbers one result.pass }
-        { offer_all(table, arrived, one, worker) },
+            requires { Idle table.now one }
+            ensures { Idle table.entry.now result.pass }
+        { offer_all(table, arrived, threads, one, worker) },
         move || -> WorkerValues
             requires { Idle table.now other × (worker < 3) }
-            ensures { Idle table.entry.now result.pass × SameNumbers other result.pass }
-        { offer_all(table, arrived, other, worker + 1) },
+            ensures { Idle table.entry.now result.pass }
+        { offer_all(table, arrived, threads, other, worker + 1) },
     )
 }
 
@@ -116,54 +117,53 @@ fn run_four_workers<R: Threads + Sync>(
     requires b { Idle table.now b }
     requires c { Idle table.now c }
     requires d { Idle table.now d }
-    ensures first { Idle table.now result.0.0.pass × SameNumbers a result.0.0.pass }
-    ensures second { Idle table.now result.0.1.pass × SameNumbers b result.0.1.pass }
-    ensures third { Idle table.now result.1.0.pass × SameNumbers c result.1.0.pass }
-    ensures fourth { Idle table.now result.1.1.pass × SameNumbers d result.1.1.pass }
+    ensures first { Idle table.now result.0.0.pass }
+    ensures second { Idle table.now result.0.1.pass }
+    ensures third { Idle table.now result.1.0.pass }
+    ensures fourth { Idle table.now result.1.1.pass }
 {
-    join(
+    thread::join(
         rt,
         move || -> (WorkerValues, WorkerValues)
             requires { Idle table.now a × Idle table.now b }
-            ensures { Idle table.entry.now result.0.pass × SameNumbers a result.0.pass
-                × Idle table.entry.now result.1.pass × SameNumbers b result.1.pass }
-        { run_two_workers(rt, table, arrived, a, b, 0) },
+            ensures { Idle table.entry.now result.0.pass × Idle table.entry.now result.1.pass }
+        { run_two_workers(rt, table, arrived, 4, a, b, 0) },
         move || -> (WorkerValues, WorkerValues)
             requires { Idle table.now c × Idle table.now d }
-            ensures { Idle table.entry.now result.0.pass × SameNumbers c result.0.pass
-                × Idle table.entry.now result.1.pass × SameNumbers d result.1.pass }
-        { run_two_workers(rt, table, arrived, c, d, 2) },
+            ensures { Idle table.entry.now result.0.pass × Idle table.entry.now result.1.pass }
+        { run_two_workers(rt, table, arrived, 4, c, d, 2) },
     )
 }
 
-// Takes the pass of a worker into the first one. The values stay.
-fn take_in(table: &Table<AnyPair>, into: &mut Pass<AnyPair>, answers: WorkerValues) -> [u64; EACH]
+// Takes the pass of a worker into another. The values stay.
+fn take_in<R: Abort>(
+    rt: &R,
+    table: &Table<AnyPair>,
+    into: &mut Pass<AnyPair>,
+    worker: WorkerValues,
+) -> [u64; EACH]
     requires idle { Idle table.now into.old }
-    requires also { Idle table.now answers.pass }
-    requires number { answers.pass.knows.number ≢ 0 }
-    ensures idle { Idle table.now into.new }
+    requires also { Idle table.now worker.pass }
+    ensures { Idle table.now into.new }
 {
-    let WorkerValues { pass, values } = answers;
-    table.join(into, pass);
+    let WorkerValues { pass, values } = worker;
+    join(rt, table, into, pass);
     values
 }
 
 // Whether some worker offered this value for the key of this number.
-fn is_offer(number: u64, value: u64) -> bool
-    requires { (1 ≤ number) × (number ≤ 100) }
-{
-    let key = key_of(number);
+fn is_offer(number: u64, value: u64) -> bool {
     for worker in 0..4 {
-        let first = first_number(worker);
-        let inserts = first <= number && number < first + EACH as u64;
-        if inserts && value == offer_of(worker, key) {
+        let first = number_of(worker, 0);
+        let inserts = first <= number && number < first.wrapping_add(EACH as u64);
+        if inserts && value == offer_of(worker, key_of(number)) {
             return true;
         }
     }
     false
 }
 
-// The value of each key of the worker is one that was offer_all for it, and the worker learned it.
+// The value of each key of the worker is one that was offered for it, and the worker learned it.
 fn check_values<R: Abort>(
     rt: &R,
     table: &Table<AnyPair>,
@@ -171,43 +171,63 @@ fn check_values<R: Abort>(
     worker: u64,
     values: &[u64; EACH],
 )
-    requires idle { Idle table.now pass.old }
-    requires worker { worker < 4 }
-    ensures idle { Idle table.now pass.new }
+    requires { Idle table.now pass.old }
+    ensures { Idle table.now pass.new }
 {
-    let first = first_number(worker);
     for i in 0..EACH {
-        let number = first + i as u64;
-        let key = key_of(number);
-        assert_eq!(rt; table.find(pass, key), Some(values[i]), "key {key}");
-        assert!(rt; is_offer(number, values[i]), "key {key}");
+        let number = number_of(worker, i);
+        let found = find(table, pass, key_of(number)) == Some(values[i]);
+        assert!(rt; found && is_offer(number, values[i]), "number {number}");
     }
 }
 
+// One race of two workers. Behind it one pass finds what both learned.
+fn race_two<R: Abort + Threads>(rt: &R, table: &Table<AnyPair>, mut a: Pass<AnyPair>)
+    requires { Idle table.now a }
+{
+    let b = split(rt, table, &mut a);
+    let arrived = AtomicU64::new(0);
+    let (first, second) = run_two_workers(rt, table, &arrived, 2, a, b, 0);
+    let WorkerValues {
+        pass: mut all,
+        values,
+    } = first;
+    let of_second = take_in(rt, table, &mut all, second);
+    assert!(rt; all.placed() == 80);
+    check_values(rt, table, &mut all, 0, &values);
+    check_values(rt, table, &mut all, 1, &of_second);
+}
+
+// One race of four workers.
+fn race_four<R: Abort + Threads + Sync>(rt: &R, table: &Table<AnyPair>, mut a: Pass<AnyPair>)
+    requires { Idle table.now a }
+{
+    let b = split(rt, table, &mut a);
+    let c = split(rt, table, &mut a);
+    let d = split(rt, table, &mut a);
+    let arrived = AtomicU64::new(0);
+    let ((first, second), (third, fourth)) = run_four_workers(rt, table, &arrived, a, b, c, d);
+    let WorkerValues {
+        pass: mut all,
+        values,
+    } = first;
+    let of_second = take_in(rt, table, &mut all, second);
+    let of_third = take_in(rt, table, &mut all, third);
+    let of_fourth = take_in(rt, table, &mut all, fourth);
+    assert!(rt; all.placed() == 100);
+    check_values(rt, table, &mut all, 0, &values);
+    check_values(rt, table, &mut all, 1, &of_second);
+    check_values(rt, table, &mut all, 2, &of_third);
+    check_values(rt, table, &mut all, 3, &of_fourth);
+}
+
 #[test]
-fn four_threads_agree_on_the_value_of_each_key(rt: HostRuntime) -> Result<(), Fail> {
-    for _ in 0..500 {
-        let (table, mut a) = Table::new(rt.alloc(), 100, 4, &AnyPair)?;
-        let b = table.split(&mut a);
-        let c = table.split(&mut a);
-        let d = table.split(&mut a);
-        let arrived = AtomicU64::new(0);
-        let ((first, second), (third, fourth)) = run_four_workers(
-            &rt, &table, &arrived, a, b, c, d,
-        );
-        let WorkerValues {
-            pass: mut all,
-            values,
-        } = first;
-        let of_second = take_in(&table, &mut all, second);
-        let of_third = take_in(&table, &mut all, third);
-        let of_fourth = take_in(&table, &mut all, fourth);
-        assert_eq!(rt; all.number(), 0);
-        assert_eq!(rt; all.placed(), 100);
-        check_values(&rt, &table, &mut all, 0, &values);
-        check_values(&rt, &table, &mut all, 1, &of_second);
-        check_values(&rt, &table, &mut all, 2, &of_third);
-        check_values(&rt, &table, &mut all, 3, &of_fourth);
+fn threads_agree_on_the_value_of_each_key(rt: HostRuntime) -> Result<(), Fail> {
+    for _ in 0..100 {
+        let (table, pass) = Table::new(rt.alloc(), 100, 2, &AnyPair)?;
+        race_two(&rt, &table, pass);
+        let (table, pass) = Table::new(rt.alloc(), 100, 4, &AnyPair)?;
+        race_four(&rt, &table, pass);
     }
     Ok(())
 }

@@ -7,6 +7,8 @@
 #![tactic(auto)]
 
 #[cfg(test)]
+mod calls;
+#[cfg(test)]
 mod chains;
 #[cfg(test)]
 mod four_threads;
@@ -15,13 +17,9 @@ mod growth;
 #[cfg(test)]
 mod plain_map;
 #[cfg(test)]
-mod race;
-#[cfg(test)]
-mod shared_cells;
+mod sealed_cells;
 #[cfg(test)]
 mod start;
-#[cfg(test)]
-mod step_helpers;
 #[cfg(test)]
 mod steps;
 #[cfg(test)]

@@ -1,106 +1,92 @@
 //! The calls of the table, one after another on one thread.
-ghost use Rattle.std.specs.Prelude.{◌≤◌};
-ghost use Rattle.table_tests.specs.States.{Idle};
-
-use share_map::{AnyPair, Full, Kept, Pass, Shape, Table};
-use std::process::Abort;
+use crate::calls::{Call, check_calls, check_found, fill, join, split};
+use share_map::{AnyPair, Table};
 use std::test::Fail;
 
 #[test]
 fn a_table_with_two_passes_keeps_the_first_values(rt: HostRuntime) -> Result<(), Fail> {
     let (table, mut a) = Table::new(rt.alloc(), 100, 2, &AnyPair)?;
-    assert_eq!(rt; table.insert(&mut a, 5, 7), Ok(Kept::Placed));
-    assert_eq!(rt; table.insert(&mut a, 5, 9), Ok(Kept::Found(7)));
-    assert_eq!(rt; table.find(&mut a, 5), Some(7));
-    assert_eq!(rt; table.find(&mut a, 6), None);
-    let wanted = Shape {
-        generation: 0,
-        cells: 64,
-        last: false,
-    };
-    assert_eq!(rt; table.shape(&mut a), wanted);
-
-    let mut b = table.split(&mut a);
-    assert_eq!(rt; a.spare(), 0);
-    assert_eq!(rt; b.number(), 1);
-    assert_eq!(rt; table.find(&mut b, 5), Some(7));
-    assert_eq!(rt; table.insert(&mut b, 6, 8), Ok(Kept::Placed));
-
-    table.join(&mut a, b);
-    assert_eq!(rt; table.find(&mut a, 6), Some(8));
-    assert_eq!(rt; a.placed(), 2);
+    check_calls(
+        &rt,
+        &table,
+        &mut a,
+        &[
+            Call::Places(5, 7),
+            Call::Meets(5, 7),
+            Call::Finds(5, 7),
+            Call::Lacks(6),
+            Call::IsIn(0, 64, false),
+            Call::HasPasses(0, 1),
+        ],
+    );
+    let mut b = split(&rt, &table, &mut a);
+    check_calls(
+        &rt,
+        &table,
+        &mut b,
+        &[Call::HasPasses(1, 0), Call::Finds(5, 7), Call::Places(6, 8)],
+    );
+    join(&rt, &table, &mut a, b);
+    check_calls(
+        &rt,
+        &table,
+        &mut a,
+        &[Call::HasPasses(0, 0), Call::Finds(6, 8), Call::HasPlaced(2)],
+    );
     Ok(())
 }
 
-// Inserts the keys 1 to 64, each with 1000 more than itself.
-fn fill<R: Abort>(rt: &R, table: &Table<AnyPair>, pass: &mut Pass<AnyPair>)
-    requires idle { Idle table.now pass.old }
-    ensures idle { Idle table.now pass.new }
-{
-    for key in 1..65 {
-        assert_eq!(rt;
-            table.insert(pass, key, 1000 + key),
-            Ok(Kept::Placed),
-            "key {key}"
-        );
-    }
-}
-
+// Keys 5 and 149 have one home among 64 cells, and the home of 144 and 288 is the last of them.
 #[test]
-fn a_table_is_full_at_its_capacity(rt: HostRuntime) -> Result<(), Fail> {
-    let (table, mut pass) = Table::new(rt.alloc(), 64, 2, &AnyPair)?;
-    fill(&rt, &table, &mut pass);
-    let wanted = Shape {
-        generation: 1,
-        cells: 128,
-        last: true,
-    };
-    assert_eq!(rt; table.shape(&mut pass), wanted);
-    assert_eq!(rt; table.insert(&mut pass, 65, 1), Err(Full));
-    assert_eq!(rt; table.insert(&mut pass, 10, 1), Ok(Kept::Found(1010)));
-    assert_eq!(rt; table.find(&mut pass, 65), None);
+fn walks_go_past_other_keys_and_wrap(rt: HostRuntime) -> Result<(), Fail> {
+    let (table, mut pass) = Table::new(rt.alloc(), 100, 1, &AnyPair)?;
+    check_calls(
+        &rt,
+        &table,
+        &mut pass,
+        &[
+            Call::Places(5, 7),
+            Call::Lacks(149),
+            Call::Places(149, 11),
+            Call::Meets(149, 11),
+            Call::Meets(5, 7),
+            Call::Finds(149, 11),
+            Call::Finds(5, 7),
+            Call::Places(144, 8),
+            Call::Lacks(288),
+            Call::Places(288, 9),
+            Call::Finds(288, 9),
+            Call::Finds(144, 8),
+        ],
+    );
     Ok(())
-}
-
-// There is no room for another key. It isn't found, and no more entries were placed.
-fn check_refusals<R: Abort>(rt: &R, table: &Table<AnyPair>, pass: &mut Pass<AnyPair>)
-    requires idle { Idle table.now pass.old }
-    ensures idle { Idle table.now pass.new }
-{
-    for key in 65..300 {
-        assert_eq!(rt; table.insert(pass, key, 1), Err(Full), "key {key}");
-        assert_eq!(rt; table.find(pass, key), None, "key {key}");
-        assert_eq!(rt; pass.placed(), 64);
-    }
-}
-
-// The keys 1 to 64 have their values.
-fn check_all_found<R: Abort>(rt: &R, table: &Table<AnyPair>, pass: &mut Pass<AnyPair>)
-    requires idle { Idle table.now pass.old }
-    ensures idle { Idle table.now pass.new }
-{
-    for key in 1..65 {
-        assert_eq!(rt; table.find(pass, key), Some(1000 + key), "key {key}");
-    }
 }
 
 #[test]
 fn a_full_table_stays_as_it_was(rt: HostRuntime) -> Result<(), Fail> {
-    let (table, mut pass) = Table::new(rt.alloc(), 64, 2, &AnyPair)?;
-    fill(&rt, &table, &mut pass);
-    check_refusals(&rt, &table, &mut pass);
-    check_all_found(&rt, &table, &mut pass);
-    Ok(())
-}
-
-#[test]
-fn another_pass_finds_a_full_table_full(rt: HostRuntime) -> Result<(), Fail> {
     let (table, mut a) = Table::new(rt.alloc(), 64, 2, &AnyPair)?;
-    let mut b = table.split(&mut a);
-    fill(&rt, &table, &mut a);
-    assert_eq!(rt; table.insert(&mut b, 65, 1), Err(Full));
-    assert_eq!(rt; table.insert(&mut b, 64, 1), Ok(Kept::Found(1064)));
-    assert_eq!(rt; b.placed(), 0);
-    assert_eq!(rt; a.placed(), 64);
+    let mut b = split(&rt, &table, &mut a);
+    fill(&rt, &table, &mut a, 1, 65);
+    check_calls(
+        &rt,
+        &table,
+        &mut a,
+        &[
+            Call::IsIn(1, 128, true),
+            Call::Refuses(65),
+            Call::Meets(10, 110),
+            Call::Lacks(65),
+            Call::Refuses(300),
+            Call::Lacks(300),
+            Call::HasPlaced(64),
+        ],
+    );
+    check_calls(
+        &rt,
+        &table,
+        &mut b,
+        &[Call::Refuses(65), Call::Meets(64, 164), Call::HasPlaced(0)],
+    );
+    check_found(&rt, &table, &mut b, 65);
     Ok(())
 }

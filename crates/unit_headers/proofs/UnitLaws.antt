@@ -1,6 +1,6 @@
 -- Laws on the chain of units and on their headers.
-use Rattle.std.specs.Prelude.{◌≡◌, ℕ, zero, suc, ◌+◌, ◌<◌, ◌≤◌, ◌==◌, not, nat_le, nat_lt, Bool, true, false, cond, List, [], ◌∷◌, length, get_or, Result, Ok, Err, IfOk, refl}
-use Rattle.std.proofs.Common.{sym, ◌∙◌, ap, subst, arith, leb-true, ltb-false, eqb-true}
+use Rattle.std.specs.Prelude.{◌≡◌, ◌||◌, ℕ, zero, suc, ◌+◌, ◌<◌, ◌≤◌, ◌==◌, not, nat_le, nat_lt, Bool, true, false, cond, List, [], ◌∷◌, length, get_or, Result, Ok, Err, IfOk, refl}
+use Rattle.std.proofs.Common.{inl, inr, sym, ◌∙◌, ap, subst, arith, leb-true, ltb-false, eqb-true}
 use Rattle.std.proofs.lemmas.List.{get_or_default}
 use Rattle.std.proofs.lemmas.Bool.Decides.{nat_tests}
 use Rattle.dw_fields.specs.declared.byte_order.Order.{Order}
@@ -14,13 +14,14 @@ use Rattle.dw_fields.specs.ReaderLaws.{is_address_size-true, length_at-past, nex
 use Rattle.unit_headers.specs.declared.chain.Link.{Link}
 use Rattle.unit_headers.specs.declared.chain.Link.TheVariants.{Whole, Broken}
 use Rattle.unit_headers.specs.declared.chain.TheConstants.{UNIT_LIMIT}
+use Rattle.unit_headers.specs.declared.header.UnitFields.{UnitFields}
 use Rattle.unit_headers.specs.declared.header.UnitHeader.{UnitHeader}
 use Rattle.unit_headers.specs.declared.kind.Extra.TheVariants.{Id, Signature}
 use Rattle.unit_headers.specs.declared.kind.UnitKind.{UnitKind}
 use Rattle.unit_headers.specs.declared.kind.UnitKind.TheVariants.{Compile, TypeUnit, Partial, Skeleton, SplitCompile, SplitType}
 use Rattle.unit_headers.specs.Kinds.{HasExtraOf, extra_at, id_at, in_unit, kind_of, signature_at}
 use Rattle.unit_headers.specs.Links.{LeadsOn, LiesIn, Tile, followed, link_at, link_of, links_from, section_from, unit_chain}
-use Rattle.unit_headers.specs.Headers.{HasShape, declarations_at, header_at, header_of, kind_at, linked_header, size_at, unit_count, version_at}
+use Rattle.unit_headers.specs.Headers.{HasShape, IsUnitVersion, declarations_at, fields_at, fields_of_version_4, fields_of_version_5, header_at, header_of, is_unit_version, kind_at, linked_header, size_at, unit_count, version_at}
 
 whole_leads : (size number place : ℕ) (read : Length × ℕ) (b : Bool) → nat_le (read.1 + read.0.value) size ≡ b → place + 4 ≤ read.1 → number < UNIT_LIMIT
     → LeadsOn size number place (cond b (Whole place read.1 (read.1 + read.0.value) read.0.wide) (Broken (fault UnitTruncated place)))
@@ -107,12 +108,16 @@ not_false : (b : Bool) → not b ≡ false → b ≡ true
 not_false true e = refl
 not_false false e = sym e
 
-version_field : (s : Span) → IsField (λ v. v ≡ 5) 2 s (version_at s)
+by_version : (version : ℕ) (four five : Bool) → version == 4 ≡ four → version == 5 ≡ five → (four || five) ≡ true → IsUnitVersion version
+by_version version true five a b e = inl (eqb-true version 4 a)
+by_version version false five a b e = inr (eqb-true version 5 (b ∙ e))
+
+version_field : (s : Span) → IsField IsUnitVersion 2 s (version_at s)
 unfolding version_at
 version_field s =
-    next-IfOk (λ r. (s.place + 2 ≤ r.1) × (r.1 ≤ s.end)) (λ r. (r.0 ≡ 5) × (s.place + 2 ≤ r.1) × (r.1 ≤ s.end)) (in_unit (number_at 2 s)) _ (number_past 2 s)
-    (λ v past. next-IfOk (λ _. not (v.0 == 5) ≡ false) (λ r. (r.0 ≡ 5) × (s.place + 2 ≤ r.1) × (r.1 ≤ s.end)) (refuse (not (v.0 == 5)) (fault UnitVersion s.place)) _
-    (refuse-IfOk (not (v.0 == 5)) (fault UnitVersion s.place)) (λ u e. (eqb-true v.0 5 (not_false (v.0 == 5) e), past.0, past.1)))
+    next-IfOk (λ r. (s.place + 2 ≤ r.1) × (r.1 ≤ s.end)) (λ r. IsUnitVersion r.0 × (s.place + 2 ≤ r.1) × (r.1 ≤ s.end)) (in_unit (number_at 2 s)) _ (number_past 2 s)
+    (λ v past. next-IfOk (λ _. not (is_unit_version v.0) ≡ false) (λ r. IsUnitVersion r.0 × (s.place + 2 ≤ r.1) × (r.1 ≤ s.end)) (refuse (not (is_unit_version v.0)) (fault UnitVersion s.place)) _
+    (refuse-IfOk (not (is_unit_version v.0)) (fault UnitVersion s.place)) (λ u e. (by_version v.0 (v.0 == 4) (v.0 == 5) refl refl (not_false (is_unit_version v.0) e), past.0, past.1)))
 
 kind_after : (s : Span) (k : ℕ × ℕ) (kind : Result UnitKind Fault) → (s.place + 1 ≤ k.1) × (k.1 ≤ s.end)
     → IfOk {T = UnitKind × ℕ} (kind >>= (λ x. Ok (x, k.1))) (λ r. (s.place + 1 ≤ r.1) × (r.1 ≤ s.end))
@@ -161,25 +166,70 @@ extra_field Skeleton wide s within = id_field s
 extra_field SplitCompile wide s within = id_field s
 extra_field SplitType wide s within = signature_field wide s
 
+-- what the fields behind a version say of the header
+record HasFields (version abbrev_length : ℕ) (s : Span) (read : UnitFields × ℕ) : Type 0 where
+  pub address : IsAddressSize read.0.address_size
+  pub declarations : read.0.«abbrev» ≤ abbrev_length
+  pub forward : s.place ≤ read.1
+  pub inside : read.1 ≤ s.end
+  pub extra : HasExtraOf read.0.kind read.0.extra
+  pub compile : version ≡ 4 → read.0.kind ≡ Compile
+
+fields_5 : (version abbrev_length : ℕ) (wide : Bool) (s : Span) → (version ≡ 4 → ⊥) → IfOk (fields_of_version_5 abbrev_length wide s) (HasFields version abbrev_length s)
+unfolding fields_of_version_5
+fields_5 version abbrev_length wide s later =
+    next-IfOk (λ r. (s.place + 1 ≤ r.1) × (r.1 ≤ s.end)) (HasFields version abbrev_length s) (kind_at s) _ (kind_field s) (λ kind b.
+    next-IfOk (λ r. IsAddressSize r.0 × (kind.1 + 1 ≤ r.1) × (r.1 ≤ s.end)) (HasFields version abbrev_length s) (size_at (at s kind.1)) _ (size_field (at s kind.1)) (λ bytes c.
+    next-IfOk (λ r. (r.0 ≤ abbrev_length) × (bytes.1 + 4 ≤ r.1) × (r.1 ≤ s.end)) (HasFields version abbrev_length s) (declarations_at abbrev_length wide (at s bytes.1)) _ (declarations_field abbrev_length wide (at s bytes.1)) (λ declarations d.
+    next-IfOk (λ r. HasExtraOf kind.0 r.0 × (declarations.1 ≤ r.1) × (r.1 ≤ s.end)) (HasFields version abbrev_length s) (extra_at kind.0 wide (at s declarations.1)) _ (extra_field kind.0 wide (at s declarations.1) d.2) (λ extra e.
+    record {
+      address = c.0;
+      declarations = d.0;
+      forward = omega arith;
+      inside = e.2;
+      extra = e.0;
+      compile = λ four. absurd (later four);
+    }))))
+
+fields_4 : (version abbrev_length : ℕ) (wide : Bool) (s : Span) → IfOk (fields_of_version_4 abbrev_length wide s) (HasFields version abbrev_length s)
+unfolding fields_of_version_4
+fields_4 version abbrev_length wide s =
+    next-IfOk (λ r. (r.0 ≤ abbrev_length) × (s.place + 4 ≤ r.1) × (r.1 ≤ s.end)) (HasFields version abbrev_length s) (declarations_at abbrev_length wide s) _ (declarations_field abbrev_length wide s) (λ declarations d.
+    next-IfOk (λ r. IsAddressSize r.0 × (declarations.1 + 1 ≤ r.1) × (r.1 ≤ s.end)) (HasFields version abbrev_length s) (size_at (at s declarations.1)) _ (size_field (at s declarations.1)) (λ bytes c.
+    record {
+      address = c.0;
+      declarations = d.0;
+      forward = omega arith;
+      inside = c.2;
+      extra = refl;
+      compile = λ four. refl;
+    }))
+
+not_four : (version : ℕ) → version == 4 ≡ false → version ≡ 4 → ⊥
+not_four version test four = grind (arith, nat_tests)
+
+fields_field : (version abbrev_length : ℕ) (wide : Bool) (s : Span) (b : Bool) → version == 4 ≡ b
+    → IfOk (cond b (fields_of_version_4 abbrev_length wide s) (fields_of_version_5 abbrev_length wide s)) (HasFields version abbrev_length s)
+fields_field version abbrev_length wide s true test = fields_4 version abbrev_length wide s
+fields_field version abbrev_length wide s false test = fields_5 version abbrev_length wide s (not_four version test)
+
 header_of-shape : (size abbrev_length number place : ℕ) (wide : Bool) (s : Span) → place + 4 ≤ s.place → s.end ≤ size
     → IfOk (header_of abbrev_length number place wide s) (λ h. HasShape size abbrev_length number h)
-unfolding header_of
+unfolding header_of fields_at
 header_of-shape size abbrev_length number place wide s begun within =
-    next-IfOk (λ r. (r.0 ≡ 5) × (s.place + 2 ≤ r.1) × (r.1 ≤ s.end)) (λ h. HasShape size abbrev_length number h) (version_at s) _ (version_field s) (λ version a.
-    next-IfOk (λ r. (version.1 + 1 ≤ r.1) × (r.1 ≤ s.end)) (λ h. HasShape size abbrev_length number h) (kind_at (at s version.1)) _ (kind_field (at s version.1)) (λ kind b.
-    next-IfOk (λ r. IsAddressSize r.0 × (kind.1 + 1 ≤ r.1) × (r.1 ≤ s.end)) (λ h. HasShape size abbrev_length number h) (size_at (at s kind.1)) _ (size_field (at s kind.1)) (λ bytes c.
-    next-IfOk (λ r. (r.0 ≤ abbrev_length) × (bytes.1 + 4 ≤ r.1) × (r.1 ≤ s.end)) (λ h. HasShape size abbrev_length number h) (declarations_at abbrev_length wide (at s bytes.1)) _ (declarations_field abbrev_length wide (at s bytes.1)) (λ declarations d.
-    next-IfOk (λ r. HasExtraOf kind.0 r.0 × (declarations.1 ≤ r.1) × (r.1 ≤ s.end)) (λ h. HasShape size abbrev_length number h) (extra_at kind.0 wide (at s declarations.1)) _ (extra_field kind.0 wide (at s declarations.1) d.2) (λ extra e.
+    next-IfOk (λ r. IsUnitVersion r.0 × (s.place + 2 ≤ r.1) × (r.1 ≤ s.end)) (λ h. HasShape size abbrev_length number h) (version_at s) _ (version_field s) (λ version a.
+    next-IfOk (HasFields version.0 abbrev_length (at s version.1)) (λ h. HasShape size abbrev_length number h) (fields_at version.0 abbrev_length wide (at s version.1)) _ (fields_field version.0 abbrev_length wide (at s version.1) (version.0 == 4) refl) (λ fields b.
     record {
       counted = refl;
       version = a.0;
-      address = c.0;
-      declarations = d.0;
-      begins = omega arith;
-      inside = e.2;
+      address = b.address;
+      declarations = b.declarations;
+      begins = omega (arith, b.forward);
+      inside = b.inside;
       ends = within;
-      extra = e.0;
-    })))))
+      extra = b.extra;
+      compile = b.compile;
+    }))
 
 linked_shape : (info : List ℕ) (order : Order) (abbrev_length i start : ℕ) (link : Link) → LeadsOn (length info) i start link
     → IfOk (linked_header info order abbrev_length i link) (λ h. HasShape (length info) abbrev_length i h)

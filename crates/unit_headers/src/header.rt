@@ -1,14 +1,15 @@
-//! The header of a unit (DWARF 5 section 7.5.1): one function a field.
+//! The header of a unit (DWARF 5 section 7.5.1, DWARF 4 section 7.5.1.1): one function a field.
 
 ghost use Rattle.std.specs.Prelude.{◌≡◌, ◌<◌, ◌≤◌, ◌^◌, length, IfOk};
 ghost use Rattle.dw_fields.specs.Reading.{IsAddressSize, Reads};
-ghost use Rattle.unit_headers.specs.Headers.{declarations_at, header_of, kind_at, size_at, version_at};
+ghost use Rattle.unit_headers.specs.Headers.{declarations_at, fields_at, fields_of_version_4, fields_of_version_5, header_of, kind_at, size_at, version_at};
 
 use crate::kind::{Extra, UnitKind, read_extra, unit_kind};
 use crate::refusal::in_unit;
 use dw_fields::{Code, Cut, Fault};
 
-/// The header of a unit (DWARF 5 section 7.5.1.1). Places are offsets from the section's start.
+/// The header of a unit (DWARF 5 section 7.5.1.1, DWARF 4 section 7.5.1.1). Places are offsets from
+/// the section's start.
 #[derive(Clone, Copy, Debug, PartialEq, Eq)]
 pub struct UnitHeader {
     /// The unit's number in the section, from 0.
@@ -19,9 +20,9 @@ pub struct UnitHeader {
     pub end: u64,
     /// Whether the unit is of the 64-bit format (section 7.4): its offsets have 8 bytes, else 4.
     pub wide: bool,
-    /// `version`: 5.
+    /// `version`: 4 or 5.
     pub version: u16,
-    /// `unit_type` (table 7.2).
+    /// `unit_type` (table 7.2); a unit of version 4 is a compilation unit.
     pub kind: UnitKind,
     /// `address_size`: 2, 4 or 8 bytes.
     pub address_size: u8,
@@ -30,6 +31,15 @@ pub struct UnitHeader {
     /// The place of the first entry, behind the header.
     pub entries: u64,
     /// What a header of the unit's kind has behind these fields (sections 7.5.1.2 and 7.5.1.3).
+    pub extra: Extra,
+}
+
+/// The fields of a header behind its version.
+#[derive(Clone, Copy, Debug, PartialEq, Eq)]
+pub(crate) struct UnitFields {
+    pub kind: UnitKind,
+    pub address_size: u8,
+    pub abbrev: u32,
     pub extra: Extra,
 }
 
@@ -47,21 +57,69 @@ pub(crate) fn read_header(
 {
     let end = cut.end();
     let version = read_version(&mut cut)?;
-    let kind = read_kind(&mut cut)?;
-    let address_size = read_size(&mut cut)?;
-    let abbrev = read_declarations(&mut cut, abbrev_length, wide)?;
-    let extra = read_extra(&mut cut, kind, wide)?;
+    let fields = read_fields(&mut cut, version, abbrev_length, wide)?;
     Ok(UnitHeader {
         number,
         place,
         end,
         wide,
         version,
+        kind: fields.kind,
+        address_size: fields.address_size,
+        abbrev: fields.abbrev,
+        entries: cut.place(),
+        extra: fields.extra,
+    })
+}
+
+/// The fields behind the version, in the order of that version.
+#[tactic(auto, unfolding(crate::specs::Headers::fields_at))]
+fn read_fields(
+    cut: &mut Cut,
+    version: u16,
+    abbrev_length: u64,
+    wide: bool,
+) -> Result<UnitFields, Fault>
+    requires { abbrev_length < 2 ^ 32 }
+    ensures { Reads (λ x. x) result (fields_at version abbrev_length wide) cut.old cut.new }
+{
+    if version == 4 {
+        return read_version_4(cut, abbrev_length, wide);
+    }
+    read_version_5(cut, abbrev_length, wide)
+}
+
+#[tactic(auto, unfolding(crate::specs::Headers::fields_of_version_5))]
+fn read_version_5(cut: &mut Cut, abbrev_length: u64, wide: bool) -> Result<UnitFields, Fault>
+    requires { abbrev_length < 2 ^ 32 }
+    ensures { Reads (λ x. x) result (fields_of_version_5 abbrev_length wide) cut.old cut.new }
+{
+    let kind = read_kind(cut)?;
+    let address_size = read_size(cut)?;
+    let abbrev = read_declarations(cut, abbrev_length, wide)?;
+    let extra = read_extra(cut, kind, wide)?;
+    Ok(UnitFields {
         kind,
         address_size,
         abbrev,
-        entries: cut.place(),
         extra,
+    })
+}
+
+/// In version 4 the offset of the declarations stands before the size of an address, and no unit has
+/// a type: those of type units stand in `.debug_types`.
+#[tactic(auto, unfolding(crate::specs::Headers::fields_of_version_4))]
+fn read_version_4(cut: &mut Cut, abbrev_length: u64, wide: bool) -> Result<UnitFields, Fault>
+    requires { abbrev_length < 2 ^ 32 }
+    ensures { Reads (λ x. x) result (fields_of_version_4 abbrev_length wide) cut.old cut.new }
+{
+    let declarations = read_declarations(cut, abbrev_length, wide)?;
+    let size = read_size(cut)?;
+    Ok(UnitFields {
+        kind: UnitKind::Compile,
+        address_size: size,
+        abbrev: declarations,
+        extra: Extra::Nothing,
     })
 }
 
@@ -71,10 +129,10 @@ fn read_version(cut: &mut Cut) -> Result<u16, Fault>
 {
     let place = cut.place();
     let version = in_unit(cut.u16())?;
-    if version != 5 {
-        return Err(Fault::at(Code::UnitVersion, place));
+    if version == 4 || version == 5 {
+        return Ok(version);
     }
-    Ok(version)
+    Err(Fault::at(Code::UnitVersion, place))
 }
 
 #[tactic(auto, unfolding(crate::specs::Headers::kind_at))]

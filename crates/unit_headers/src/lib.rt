@@ -1,5 +1,5 @@
-//! The units of `.debug_info`: the chain of their lengths, and their headers (DWARF 5 section
-//! 7.5.1).
+//! The units of `.debug_info`: the chain of their lengths, and their headers of version 5 (DWARF 5
+//! section 7.5.1) and of version 4 (DWARF 4 section 7.5.1.1).
 //!
 //! [`UnitIndex::read`] follows the chain of lengths from the section's start. [`UnitIndex::header`]
 //! answers the header of one unit, or the first refusal in byte order. Which units there are is

@@ -36,13 +36,15 @@ same_bases a b t =
 
 -- what the derived `==` answers is true of equal contexts alone
 pub same_context : (a b : ListContext)
-    → ((a.offset == b.offset) && ((a.address_size == b.address_size) && (bases_eq a.bases b.bases && option_eq (λ x y. x == y) a.low_pc b.low_pc))) ≡ true → a ≡ b
+    → ((a.offset == b.offset) && ((a.version == b.version) && ((a.address_size == b.address_size) && (bases_eq a.bases b.bases && option_eq (λ x y. x == y) a.low_pc b.low_pc)))) ≡ true → a ≡ b
 same_context a b t =
     let offset = both _ _ t in
-    let size = both _ _ offset.1 in
+    let version = both _ _ offset.1 in
+    let size = both _ _ version.1 in
     let facts = both _ _ size.1 in
     let e1 = eqb-true a.offset b.offset offset.0 in
-    let e2 = eqb-true a.address_size b.address_size size.0 in
-    let e3 = same_bases a.bases b.bases facts.0 in
-    let e4 = same_option a.low_pc b.low_pc facts.1 in
-    λ i. record { offset = e1 i; address_size = e2 i; bases = e3 i; low_pc = e4 i }
+    let e2 = eqb-true a.version b.version version.0 in
+    let e3 = eqb-true a.address_size b.address_size size.0 in
+    let e4 = same_bases a.bases b.bases facts.0 in
+    let e5 = same_option a.low_pc b.low_pc facts.1 in
+    λ i. record { offset = e1 i; version = e2 i; address_size = e3 i; bases = e4 i; low_pc = e5 i }

@@ -79,14 +79,14 @@ location_list_text place name locations =
 unfoldable pub ranges_text : UnitView → ℕ → AttrView → Text
 ranges_text u place a = do
   offset ← list_place u a
-  ranges ← ranges_of u.sections u.header.address_size u.facts offset
+  ranges ← ranges_of u.sections u.header.version u.header.address_size u.facts offset
   range_list_text place ranges
 
 -- the location list of an attribute of the entry at `place`
 unfoldable pub locations_text : UnitView → ℕ → AttrView → Text
 locations_text u place a = do
   offset ← list_place u a
-  locations ← locations_of u.sections u.header.address_size u.facts offset
+  locations ← locations_of u.sections u.header.version u.header.address_size u.facts offset
   location_list_text place a.name locations
 
 -- the list of an attribute, if it has one

@@ -20,6 +20,8 @@ use unit_headers::{UnitHeader, UnitRefusal};
 pub(crate) struct ListContext {
     /// The list's offset in its section.
     pub offset: u64,
+    /// The unit's version, which chooses the section.
+    pub version: u16,
     /// Bytes of an address.
     pub address_size: u8,
     /// Where the unit's tables begin.
@@ -92,7 +94,7 @@ impl<'f> LastLists<'f> {
     ) -> Result<ReadList<Range>, UnitRefusal>
         requires { IsAddressSize header.now.address_size }
         ensures ranges { Answers (λ l. l.items.items) result
-            (ranges_of self.old header.now.address_size facts.now offset) }
+            (ranges_of self.old header.now.version header.now.address_size facts.now offset) }
         ensures context { IfOk result (IsRangeListOf self.old) }
         ensures same { self.new ≡ self.old }
     {
@@ -125,7 +127,7 @@ impl<'f> LastLists<'f> {
     ) -> Result<ReadList<Location<'f>>, UnitRefusal>
         requires { IsAddressSize header.now.address_size }
         ensures locations { Answers (λ l. map location_view l.items.items) result
-            (locations_of self.old header.now.address_size facts.now offset) }
+            (locations_of self.old header.now.version header.now.address_size facts.now offset) }
         ensures context { IfOk result (IsLocationListOf self.old) }
         ensures same { self.new ≡ self.old }
     {
@@ -150,10 +152,11 @@ impl<'f> LastLists<'f> {
 
 /// What a unit's list at an offset depends on.
 fn context_of(header: &UnitHeader, facts: &UnitFacts, offset: u64) -> ListContext
-    ensures { result ≡ context_of header.now.address_size facts.now offset }
+    ensures { result ≡ context_of header.now.version header.now.address_size facts.now offset }
 {
     ListContext {
         offset,
+        version: header.version,
         address_size: header.address_size,
         bases: facts.bases,
         low_pc: facts.low_pc,

@@ -12,12 +12,12 @@ ghost use Rattle.unit_text.specs.UnitView.{unit_of, unit_view};
 ghost use Rattle.unit_text.specs.Lists.{is_range_list, is_location_list, is_location_attribute, list_place, range_text, range_line, range_list_text, location_list_text, bounds_text, expression_text, location_line, ranges_title, locations_title, ranges_text, locations_text, attr_lists, entry_lists, lists_text};
 
 use crate::last_lists::LastLists;
-use crate::pieces::{as_put, keep_whole};
+use crate::pieces::as_put;
 use crate::unit::Unit;
 use dw_fields::Fault;
 use dw_names::push_attribute_after;
 use dw_numbers::attribute;
-use dw_text::{push_decimal_after, push_hex_after, push_hex_bytes_after, push_text};
+use dw_text::{keep_whole, push_decimal_after, push_hex_after, push_hex_bytes_after, push_text};
 use elf_sections::Sections;
 use entry_tree::{Attr, Entry};
 use form_values::{Raw, UnitFacts, refused_at, resolve_list};

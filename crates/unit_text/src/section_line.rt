@@ -5,8 +5,7 @@ ghost use Rattle.dw_text.specs.Added.{Adds};
 ghost use Rattle.elf_sections.specs.Shapes.{row};
 ghost use Rattle.unit_text.specs.SectionLine.{section_line};
 
-use crate::pieces::keep_whole;
-use dw_text::{push_decimal_after, push_escaped_after, push_hex_after, push_text};
+use dw_text::{keep_whole, push_decimal_after, push_escaped_after, push_hex_after, push_text};
 use elf_sections::Section;
 use std::alloc::{AllocError, Global};
 

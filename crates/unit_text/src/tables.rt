@@ -5,10 +5,9 @@ ghost use Rattle.abbrev_decl.specs.Declarations.{declaration_at};
 ghost use Rattle.unit_text.specs.Tables.{AddsTo, TableEnds, headed_table, table_from_start, tables_text, zero_end};
 
 use crate::declaration_text::push_declaration;
-use crate::pieces::keep_whole;
 use abbrev_decl::{Steps, read_decl};
 use dw_fields::{Cut, Fault, Order};
-use dw_text::{push_hex_after, push_text};
+use dw_text::{keep_whole, push_hex_after, push_text};
 use std::alloc::{AllocError, Global};
 
 /// The place behind the code 0 at `place`.

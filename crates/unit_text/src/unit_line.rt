@@ -4,8 +4,9 @@ ghost use Rattle.std.specs.Prelude.{◌≡◌, ◌++◌, OnErr, OnOk};
 ghost use Rattle.dw_text.specs.Added.{Adds};
 ghost use Rattle.unit_text.specs.UnitLine.{extra_text, format_text, kind_text, unit_bounds, unit_line, unit_start};
 
-use crate::pieces::keep_whole;
-use dw_text::{push_decimal_after, push_hex_after, push_sixteen_after, push_text, push_text_after};
+use dw_text::{
+    keep_whole, push_decimal_after, push_hex_after, push_sixteen_after, push_text, push_text_after,
+};
 use std::alloc::{AllocError, Global};
 use unit_headers::{Extra, UnitHeader, UnitKind};
 

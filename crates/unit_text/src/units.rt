@@ -9,12 +9,12 @@ ghost use Rattle.unit_text.specs.Pieces.{Puts, Writes};
 ghost use Rattle.unit_text.specs.UnitView.{unit_of, unit_view};
 ghost use Rattle.unit_text.specs.Units.{attr_text, attrs_text, entries_text, entry_line, entry_text, read_unit_text};
 
-use crate::pieces::{as_put, keep_whole};
+use crate::pieces::as_put;
 use crate::unit::Unit;
 use crate::unit_line::push_unit_line;
 use crate::values::put_value;
 use dw_names::{push_attribute_after, push_tag_after};
-use dw_text::{push_decimal_after, push_hex_after, push_text};
+use dw_text::{keep_whole, push_decimal_after, push_hex_after, push_text};
 use elf_sections::Sections;
 use entry_tree::{Attr, Entry};
 use form_values::UnitFacts;

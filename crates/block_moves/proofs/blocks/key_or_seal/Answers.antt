@@ -1,4 +1,4 @@
-use Rattle.std.proofs.Common.{◌<◌, ℕ, refl, arith}
+use Rattle.std.proofs.Common.{ℕ, refl, arith}
 use Rattle.map_core.specs.declared.view.View.{View}
 use Rattle.map_core.specs.Machine.{greatest}
 use Rattle.map_cells.proofs.WalkLemmas.{walks_then, key_walks}

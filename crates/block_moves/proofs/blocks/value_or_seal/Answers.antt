@@ -1,4 +1,4 @@
-use Rattle.std.proofs.Common.{◌<◌, ℕ, refl, sym, subst, arith}
+use Rattle.std.proofs.Common.{ℕ, refl, sym, subst, arith}
 use Rattle.map_core.specs.declared.view.View.{View}
 use Rattle.map_core.specs.Machine.{greatest, IsWord}
 use Rattle.map_cells.proofs.WalkLemmas.{walks_then, value_walks}

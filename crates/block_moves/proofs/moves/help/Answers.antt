@@ -3,7 +3,7 @@ use Rattle.map_core.specs.declared.view.View.{View}
 use Rattle.map_core.specs.Places.{word_count}
 use Rattle.map_cells.proofs.WordSteps.{most_words, words_small}
 use Rattle.map_cells.proofs.WalkLemmas.{rises_then}
-use Rattle.block_moves.proofs.MoveLemmas.{loaded_rise, helps_nothing, helps_switched}
+use Rattle.block_moves.proofs.MoveLemmas.{loaded_rise}
 use Rattle.block_moves.proofs.moves.help.Goals as goal
 
 pub returns-then-generation-layout-clause-rises : goal.returns-then-generation-layout-clause-rises

@@ -1,4 +1,3 @@
-use Rattle.map_core.specs.declared.view.View.{View}
 use Rattle.map_cells.proofs.WalkLemmas.{walks_then}
 use Rattle.block_moves.proofs.MoveLemmas.{blocks_go}
 use Rattle.block_moves.proofs.moves.move_rest.Goals as goal

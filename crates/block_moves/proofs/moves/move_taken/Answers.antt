@@ -1,4 +1,3 @@
-use Rattle.std.proofs.Common.{ℕ}
 use Rattle.map_core.specs.declared.view.View.{View}
 use Rattle.map_cells.proofs.WalkLemmas.{walks_then}
 use Rattle.block_moves.proofs.MoveLemmas.{leaves_walks}

@@ -1,30 +1,8 @@
-use Rattle.std.proofs.Common.{rules, ◌+◌, ◌-◌, sym, ap, ◌∙◌, arith, option_to_list}
-use Rattle.dw_fields.specs.Span.{Span}
-use Rattle.dw_fields.specs.Walk.{walk_ends, walk_fails, walk_stops}
-use Rattle.line_machine.specs.Running.{step_at}
-use Rattle.line_machine.proofs.Turns.{rows_next}
+use Rattle.std.proofs.Common.{subst}
+use Rattle.unit_headers.specs.Refusals.{Answers}
+use Rattle.line_machine.specs.Running.{line_rows}
+use Rattle.line_machine.proofs.Turns.{kept_whole}
 use Rattle.line_machine.proofs.running.rows.Goals as goal
 
-pub returns-then-left-eq0 : goal.returns-then-left-eq0
-returns-then-left-eq0 c =
-    sym c.program.invariant.walk ∙ walk_ends (step_at c.args.program.now c.args.lengths.now) (c.left-left.result - c.program._turn) c.program.registers c.program.cut c.program.rows.items (omega arith)
-
-pub returns-in_err-row : goal.returns-in_err-row
-returns-in_err-row c =
-    let refused = sym c.program.invariant.walk
-    ∙ walk_fails (step_at c.args.program.now c.args.lengths.now) (c.left-left.result - c.program._turn) (c.left-left.result - (c.program._turn + 1))
-    c.program.registers c.program.cut c.program.rows.items c.in_err-row.field-0.0 (omega arith) (omega arith) c.in_err-row.ensures.field in
-    search rules
-
-pub program-preserved : goal.program-preserved
-program-preserved c = record {
-  ends = ap (λ (s : Span). s.end) c.in_ok-row.ensures.field.1 ∙ c.program.invariant.ends;
-  turns = c.program.invariant.turns;
-  walk = rows_next c.args.program.now c.args.lengths.now (c.left-left.result - c.program._turn) (c.left-left.result - (c.program._turn + 1)) c.program.registers c.read_step.new.registers
-      c.program.cut c.read_step.new.cut c.program.rows.items c.keep.new.rows.items (option_to_list c.in_ok-row.row) _ (omega arith) (omega arith)
-      c.in_ok-row.ensures.field.0 c.in_ok-row.ensures.field.1 c.in_ok-keep.ensures c.program.invariant.walk;
-}
-
 pub returns : goal.returns
-returns c =
-    sym c.program.invariant.walk ∙ walk_stops (step_at c.args.program.now c.args.lengths.now) (c.left-left.result - c.program._turn) c.program.registers c.program.cut c.program.rows.items (omega arith)
+returns c = subst (λ read. Answers (λ v. v.items) c.rows_as.result read) (kept_whole (line_rows c.args.program.now c.args.lengths.now c.args.cut)) c.rows_as.ensures

@@ -1,5 +1,4 @@
-use Rattle.std.proofs.Common.{◌≡◌, ◌≤◌, ℕ, ◌+◌, ◌-◌, arith}
-use Rattle.map_core.specs.Sizes.{cells_of}
+use Rattle.std.proofs.Common.{arith}
 use Rattle.map_core.proofs.SizeLemmas.{next_small, cells_least, cells_shifted}
 use Rattle.map_cells.proofs.places.cells_below.Goals as goal
 

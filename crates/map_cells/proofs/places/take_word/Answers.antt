@@ -1,5 +1,5 @@
-use Rattle.std.proofs.Common.{◌<◌, ℕ, refl, arith}
-use Rattle.map_core.specs.Places.{take_word, word_count}
+use Rattle.std.proofs.Common.{refl, arith}
+use Rattle.map_core.specs.Places.{take_word}
 use Rattle.map_cells.proofs.WordSteps.{within_low, has_take}
 use Rattle.map_cells.proofs.places.take_word.Goals as goal
 

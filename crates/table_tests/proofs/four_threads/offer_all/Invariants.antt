@@ -1,7 +1,5 @@
-use Rattle.std.proofs.Common.{◌≡◌}
 use Rattle.table_tests.specs.States.{Idle}
 use Rattle.table_tests.proofs.four_threads.offer_all.Given as goal
 
 abbrev pub invariant-loop-i : goal.invariant-loop-i
-invariant-loop-i l =
-    Idle l.table l.pass × (l.pass.knows.number ≡ l.fn.pass.knows.number) × (l.pass.knows.spare ≡ l.fn.pass.knows.spare)
+invariant-loop-i l = Idle l.table l.pass

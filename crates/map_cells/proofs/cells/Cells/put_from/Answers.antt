@@ -1,10 +1,10 @@
-use Rattle.std.proofs.Common.{◌≡◌, ◌≤◌, ◌<◌, ℕ, sym, ap, subst, ◌∙◌, arith}
+use Rattle.std.proofs.Common.{◌≡◌, ◌≤◌, ◌<◌, sym, subst, ◌∙◌, arith}
 use Rattle.map_core.specs.declared.layout.Layout.{Layout}
 use Rattle.map_core.specs.declared.view.View.{View}
 use Rattle.map_core.specs.Places.{Within}
 use Rattle.map_core.proofs.PlaceLemmas.{up_to_last}
 use Rattle.map_cells.proofs.WordSteps.{last_low}
-use Rattle.map_cells.proofs.WalkLemmas.{walks_then, upto_starts, upto_goes, upto_closed, upto_ends, may_here}
+use Rattle.map_cells.proofs.WalkLemmas.{upto_starts, upto_goes, upto_closed, upto_ends, may_here}
 use Rattle.map_cells.proofs.PutLemmas.{new_after, found_after}
 use Rattle.map_cells.proofs.cells.Cells.put_from.Goals as goal
 

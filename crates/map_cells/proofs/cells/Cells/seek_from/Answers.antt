@@ -1,7 +1,6 @@
-use Rattle.std.proofs.Common.{◌≡◌, ◌≤◌, ◌<◌, ℕ, sym, ap, subst, ◌∙◌, arith}
+use Rattle.std.proofs.Common.{◌≡◌, ◌≤◌, ◌<◌, sym, subst, ◌∙◌, arith}
 use Rattle.map_core.specs.declared.layout.Layout.{Layout}
 use Rattle.map_core.specs.declared.view.View.{View}
-use Rattle.map_core.specs.Places.{Within}
 use Rattle.map_core.proofs.PlaceLemmas.{up_to_last}
 use Rattle.map_cells.proofs.WordSteps.{last_low}
 use Rattle.map_cells.proofs.WalkLemmas.{walks_then, closed_here, upto_starts, upto_goes, upto_closed, upto_ends}

@@ -1,12 +1,11 @@
-use Rattle.std.proofs.Common.{◌≡◌, ◌≤◌, ℕ, true, length, inl, refl, sym, ap, subst, ◌∙◌, List, Ok}
+use Rattle.std.proofs.Common.{◌≡◌, ◌≤◌, ℕ, length, inl, refl, sym, ap, subst, ◌∙◌, List, Ok}
 use Rattle.map_core.specs.declared.layout.Layout.{Layout}
 use Rattle.map_core.specs.declared.view.View.{View}
-use Rattle.map_core.specs.History.{is_in}
 use Rattle.map_core.specs.Places.{Within}
 use Rattle.map_cells.specs.Seen.{CellsView}
 use Rattle.map_cells.proofs.WalkLemmas.{closed_here}
 use Rattle.share_map.specs.declared.answers.Kept.TheVariants.{Found}
-use Rattle.share_map.proofs.PointLemmas.{rises_follow, rises_rest, walk_then_current, current_then_walk, current_in, found_at, full_at, full_seen, kept_found, kept_lacks, some_uncounted, fresh, counted_rest, few_own, same_generation, placed_at, placed_new, placed_follow}
+use Rattle.share_map.proofs.PointLemmas.{rises_follow, rises_rest, walk_then_current, current_then_walk, current_in, found_at, full_at, full_seen, kept_found, kept_lacks, some_uncounted, counted_rest, few_own, same_generation, placed_at, placed_new, placed_follow}
 use Rattle.share_map.proofs.table.Table.insert.Goals as goal
 
 pub seek_from-requires-clause-current : goal.seek_from-requires-clause-current

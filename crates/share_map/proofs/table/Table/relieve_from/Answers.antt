@@ -1,4 +1,4 @@
-use Rattle.std.proofs.Common.{◌≤◌, ℕ, length, arith}
+use Rattle.std.proofs.Common.{◌≤◌, length, arith}
 use Rattle.map_core.specs.declared.view.View.{View}
 use Rattle.map_core.specs.Places.{word_count}
 use Rattle.map_cells.proofs.WordSteps.{most_words, words_small}

@@ -1,0 +1,4 @@
+pub mod Found
+pub mod Gathering
+pub mod Lookups
+pub mod Tells

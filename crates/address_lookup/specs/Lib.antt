@@ -1,0 +1,5 @@
+pub mod Built
+pub mod Indexed
+pub mod Kept
+pub mod Places
+pub mod Programs

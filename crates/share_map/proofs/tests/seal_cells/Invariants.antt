@@ -1,6 +1,0 @@
-use Rattle.map_core.specs.Passes.{AtRest}
-use Rattle.map_cells.specs.Seen.{IsOf}
-use Rattle.share_map.proofs.tests.seal_cells.Given as goal
-
-abbrev pub invariant-loop-index : goal.invariant-loop-index
-invariant-loop-index l = IsOf l.table l.pass × AtRest l.pass.knows

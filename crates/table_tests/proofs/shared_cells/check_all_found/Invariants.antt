@@ -1,5 +1,0 @@
-use Rattle.table_tests.specs.States.{Idle}
-use Rattle.table_tests.proofs.shared_cells.check_all_found.Given as goal
-
-abbrev pub invariant-loop-number : goal.invariant-loop-number
-invariant-loop-number g l = Idle l.table l.pass

@@ -1,0 +1,7 @@
+pub mod Showing
+pub mod Places
+pub mod NameSteps
+pub mod UnitSteps
+pub mod DeclaredKeys
+pub mod Reporting
+pub mod SeenLaws

@@ -1,0 +1,5 @@
+pub mod Shown
+pub mod Seen
+pub mod Kept
+pub mod Named
+pub mod StopMessages

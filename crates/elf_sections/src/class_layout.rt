@@ -44,6 +44,7 @@ fn class_of(class: u8) -> Result<bool, ElfRefusal>
     ensures { result ≡ class_of class }
 {
     match class {
+        1 => Ok(false),
         2 => Ok(true),
         _ => Err(ElfRefusal::ElfClass),
     }
@@ -56,6 +57,7 @@ fn order_of(encoding: u8) -> Result<Order, ElfRefusal>
 {
     match encoding {
         1 => Ok(Order::Little),
+        2 => Ok(Order::Big),
         _ => Err(ElfRefusal::ElfData),
     }
 }

@@ -3,7 +3,7 @@
 //! [`Elf::read`] gives the list of a file's sections with their names and bytes, or the first
 //! refusal, both as the definition `elf_of` of `specs/Names.antt` says. It reads the headers and
 //! the names and looks at no other byte. [`Elf::debug_sections`] gives the sections with debugging
-//! data by their names. So far files of the 64-bit class with little-endian numbers are read.
+//! data by their names. Files of both classes and both byte orders are read.
 //!
 //! Definitions name the types of the steps: [`ClassLayout`] is what the file's first bytes tell,
 //! [`FileHeader`] and [`SectionHeader`] are the headers' fields, and [`SectionTable`] is where the

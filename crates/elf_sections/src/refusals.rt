@@ -14,9 +14,9 @@ use std::fmt;
 pub enum ElfRefusal {
     /// The file doesn't begin with the four bytes `7f 45 4c 46`.
     NotElf,
-    /// The class byte isn't 2 (64-bit).
+    /// The class byte isn't 1 (32-bit) or 2 (64-bit).
     ElfClass,
-    /// The data byte isn't 1 (little-endian).
+    /// The data byte isn't 1 (little-endian) or 2 (big-endian).
     ElfData,
     /// The file ends before its ELF header does.
     HeaderShort,

@@ -79,8 +79,10 @@ fn refuses_in_order(rt: HostRuntime) {
         Some(OpenRefusal::Refused(ElfRefusal::SectionTable))
     );
     for (place, value, refusal) in [
-        (4, 1, ElfRefusal::ElfClass),
-        (5, 2, ElfRefusal::ElfData),
+        (4, 0, ElfRefusal::ElfClass),
+        (4, 3, ElfRefusal::ElfClass),
+        (5, 0, ElfRefusal::ElfData),
+        (5, 3, ElfRefusal::ElfData),
         (16, 1, ElfRefusal::Relocatable),
         (58, 40, ElfRefusal::SectionTable),
         (62, 3, ElfRefusal::SectionTable),

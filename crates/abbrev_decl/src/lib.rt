@@ -14,8 +14,6 @@ mod counter;
 mod declarations;
 mod lookup;
 mod pairs;
-#[cfg(test)]
-mod tests;
 
 pub use counter::Steps;
 pub use declarations::{Attrs, Decl, decl_at, read_decl};

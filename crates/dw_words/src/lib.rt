@@ -20,5 +20,3 @@ pub use numbers::{read_address, read_decimal};
 pub use refusals::WordsRefusal;
 pub use request::{DEFAULT_WORKERS, MOST_UNITS, Request, read_words};
 
-#[cfg(test)]
-mod tests;

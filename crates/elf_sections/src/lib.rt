@@ -21,8 +21,6 @@ mod reading;
 mod refusals;
 mod section;
 mod section_table;
-#[cfg(test)]
-mod tests;
 
 pub use class_layout::{ClassLayout, FILE_LIMIT};
 pub use debug::Sections;

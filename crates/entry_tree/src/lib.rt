@@ -17,8 +17,6 @@ mod laws;
 mod remembered;
 mod root;
 mod root_values;
-#[cfg(test)]
-mod tests;
 
 pub use arena::renew;
 pub use entries::read_entries;

@@ -16,8 +16,6 @@ mod laws;
 mod names;
 mod path_texts;
 mod tables;
-#[cfg(test)]
-mod tests;
 mod text_tables;
 
 pub use formats::Format;

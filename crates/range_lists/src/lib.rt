@@ -19,8 +19,6 @@ mod locations;
 mod operands;
 mod pairs;
 mod ranges;
-#[cfg(test)]
-mod tests;
 
 pub use bounds::Range;
 pub use laws::{locations_are_their_entries, ranges_are_their_entries};

@@ -15,8 +15,6 @@ mod named;
 mod names;
 mod show;
 mod tag_visitors;
-#[cfg(test)]
-mod tests;
 mod unit_walk;
 mod visitor;
 mod walk_stop;

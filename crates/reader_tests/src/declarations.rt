@@ -2,7 +2,7 @@
 
 ghost use Rattle.std.specs.Prelude.{◌≡◌, IfSome};
 
-use crate::{
+use abbrev_decl::{
     AttrSpec, Decl, Decls, FindFault, Scanner, Steps, decl_at, first_declaration_is_first,
     read_decl,
 };

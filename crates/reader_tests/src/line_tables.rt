@@ -1,6 +1,6 @@
 //! A worked program, and what each changed byte of it comes to.
 
-use crate::{LineHeader, PathTexts};
+use line_programs::{LineHeader, PathTexts};
 use dw_fields::Order;
 use elf_sections::Sections;
 use std::alloc::Global;

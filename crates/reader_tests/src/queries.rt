@@ -4,7 +4,7 @@ ghost use Rattle.std.specs.Prelude.{◌≡◌, ◌<◌, ◌^◌, length};
 ghost use Rattle.dw_fields.specs.declared.byte_order.Order.TheVariants.{Little};
 ghost use Rattle.elf_sections.specs.Shapes.{sections_view, AreShort};
 
-use crate::{
+use visit_queries::{
     EntryView, Functions, NamedVisitor, Turn, Types, Variables, Visitor, WalkStop, pick, walk,
 };
 use abbrev_decl::{Scanner, Steps};

@@ -3,7 +3,7 @@
 ghost use Rattle.std.specs.Prelude.{◌≡◌, length};
 ghost use Rattle.elf_sections.specs.Shapes.{sections_view, AreShort};
 
-use crate::{read_entries, root_facts};
+use entry_tree::{read_entries, root_facts};
 use abbrev_decl::{Scanner, Steps};
 use bumpalo::Bump;
 use dw_fields::{Code, Fault, Order};

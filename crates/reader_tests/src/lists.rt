@@ -3,7 +3,7 @@
 
 ghost use Rattle.std.specs.Prelude.{◌≡◌};
 
-use crate::{Location, Range, read_locations, read_ranges};
+use range_lists::{Location, Range, read_locations, read_ranges};
 use dw_fields::Order;
 use elf_sections::Sections;
 use form_values::{Bases, UnitFacts};

@@ -1,6 +1,6 @@
 //! Worked files: one without sections, and one with `.debug_info` and the names' section.
 
-use crate::{Elf, ElfRefusal, OpenRefusal, Sections};
+use elf_sections::{Elf, ElfRefusal, OpenRefusal, Sections};
 use dw_fields::Order;
 use std::alloc::Global;
 use std::test::Fail;

@@ -19,4 +19,3 @@ pub use given::{Given, MOST_WORKERS, read_given};
 pub use numbers::{read_address, read_decimal};
 pub use refusals::WordsRefusal;
 pub use request::{DEFAULT_WORKERS, MOST_UNITS, Request, read_words};
-

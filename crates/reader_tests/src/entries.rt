@@ -3,11 +3,11 @@
 ghost use Rattle.std.specs.Prelude.{◌≡◌, length};
 ghost use Rattle.elf_sections.specs.Shapes.{sections_view, AreShort};
 
-use entry_tree::{read_entries, root_facts};
 use abbrev_decl::{Scanner, Steps};
 use bumpalo::Bump;
 use dw_fields::{Code, Fault, Order};
 use elf_sections::Sections;
+use entry_tree::{read_entries, root_facts};
 use form_values::Raw;
 use std::alloc::Global;
 use std::test::Fail;

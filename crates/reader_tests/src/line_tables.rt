@@ -1,8 +1,8 @@
 //! A worked program, and what each changed byte of it comes to.
 
-use line_programs::{LineHeader, PathTexts};
 use dw_fields::Order;
 use elf_sections::Sections;
+use line_programs::{LineHeader, PathTexts};
 use std::alloc::Global;
 use unit_headers::{Extra, UnitHeader, UnitKind, UnitRefusal};
 

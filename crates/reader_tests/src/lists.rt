@@ -3,10 +3,10 @@
 
 ghost use Rattle.std.specs.Prelude.{◌≡◌};
 
-use range_lists::{Location, Range, read_locations, read_ranges};
 use dw_fields::Order;
 use elf_sections::Sections;
 use form_values::{Bases, UnitFacts};
+use range_lists::{Location, Range, read_locations, read_ranges};
 use std::alloc::{AllocError, Global};
 use std::test::Fail;
 use unit_headers::{Extra, UnitHeader, UnitKind, UnitRefusal};

@@ -4,15 +4,15 @@ ghost use Rattle.std.specs.Prelude.{◌≡◌, ◌<◌, ◌^◌, length};
 ghost use Rattle.dw_fields.specs.declared.byte_order.Order.TheVariants.{Little};
 ghost use Rattle.elf_sections.specs.Shapes.{sections_view, AreShort};
 
-use visit_queries::{
-    EntryView, Functions, NamedVisitor, Turn, Types, Variables, Visitor, WalkStop, pick, walk,
-};
 use abbrev_decl::{Scanner, Steps};
 use dw_fields::{Code, Fault, Order};
 use elf_sections::Sections;
 use std::alloc::{AllocError, Global};
 use std::test::Fail;
 use unit_headers::UnitIndex;
+use visit_queries::{
+    EntryView, Functions, NamedVisitor, Turn, Types, Variables, Visitor, WalkStop, pick, walk,
+};
 
 /// Code 1: compile_unit with children and a name. Code 2: variable with a name and an implicit file.
 /// Code 3: variable with a name in `.debug_str`. Code 4: subprogram whose first name is a number and whose

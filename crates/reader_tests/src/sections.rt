@@ -1,7 +1,7 @@
 //! Worked files: one without sections, and one with `.debug_info` and the names' section.
 
-use elf_sections::{Elf, ElfRefusal, OpenRefusal, Sections};
 use dw_fields::Order;
+use elf_sections::{Elf, ElfRefusal, OpenRefusal, Sections};
 use std::alloc::Global;
 use std::test::Fail;
 

@@ -1,5 +1,5 @@
 -- Three calls in a list.
-use Rattle.std.proofs.Common.{◌≡◌, ℕ, ◌+◌, true, List, [], ◌∷◌, length, Option, Result, Ok, Err, ◌∙◌, arith}
+use Rattle.std.proofs.Common.{◌≡◌, ℕ, ◌+◌, true, List, [], ◌∷◌, length, Option, Result, Ok, Err, arith}
 use Rattle.map_core.specs.declared.view.View.{View}
 use Rattle.map_core.specs.History.{is_in}
 use Rattle.map_core.specs.Calls.{own, SamePass, FindsAt, JoinsAt, CallAt, CallsInOrder, no_calls, call_then, finds, joins, placed_by, taken_in, own_count, HoldCallsOnce}

@@ -1,1 +1,2 @@
 pub mod CallListLemmas
+pub mod HandLemmas

@@ -3,6 +3,7 @@ ghost use Rattle.std.specs.Prelude.{◌≤◌};
 ghost use Rattle.map_core.specs.Machine.{IsWord};
 ghost use Rattle.table_tests.specs.States.{Idle};
 
+use map_cells::Cells;
 use share_map::{AnyPair, Full, Kept, Pass, Shape, Table};
 use std::process::Abort;
 
@@ -36,6 +37,15 @@ pub(crate) fn word(number: u64) -> u64
     } else {
         number
     }
+}
+
+/// The cells of a table, for single steps of this pass.
+pub(crate) fn cells_for<'t>(table: &'t Table<AnyPair>, pass: &Pass<AnyPair>) -> &'t Cells<AnyPair>
+    requires { Idle table.now pass.now }
+    ensures { Idle result.now pass.now }
+{
+    let _ = pass;
+    table.cells()
 }
 
 pub(crate) fn insert(

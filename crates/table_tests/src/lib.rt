@@ -15,6 +15,8 @@ mod four_threads;
 #[cfg(test)]
 mod growth;
 #[cfg(test)]
+mod hand_steps;
+#[cfg(test)]
 mod plain_map;
 #[cfg(test)]
 mod sealed_cells;
@@ -22,6 +24,8 @@ mod sealed_cells;
 mod start;
 #[cfg(test)]
 mod steps;
+#[cfg(test)]
+mod stopped_helpers;
 #[cfg(test)]
 mod sum_pairs;
 #[cfg(test)]

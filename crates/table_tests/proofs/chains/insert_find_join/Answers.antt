@@ -1,6 +1,4 @@
-use Rattle.std.proofs.Common.{ℕ, List, subst, sym, ◌∙◌}
 use Rattle.map_core.specs.declared.view.View.{View}
-use Rattle.map_core.specs.Calls.{JoinsAt}
 use Rattle.map_cells.specs.FollowLaws.{follows_same_pass}
 use Rattle.table_tests.proofs.CallListLemmas.{three_calls}
 use Rattle.table_tests.proofs.chains.insert_find_join.Goals as goal

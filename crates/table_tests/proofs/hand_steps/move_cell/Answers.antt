@@ -1,0 +1,8 @@
+use Rattle.table_tests.proofs.HandLemmas.{first_cell}
+use Rattle.table_tests.proofs.hand_steps.move_cell.Goals as goal
+
+pub key_at-requires-clause-cell : goal.key_at-requires-clause-cell
+key_at-requires-clause-cell c = first_cell c.args.cells.now.layout c.args.index c.requires.index
+
+pub seal_key-requires-clause-cell : goal.seal_key-requires-clause-cell
+seal_key-requires-clause-cell c = first_cell c.args.cells.now.layout c.args.index c.requires.index

@@ -12,6 +12,7 @@
 //!   puts zeros behind the file in the next run, up to N bytes.
 //! - `fail NAME CALL` lets that call of the source, of out or of err fail in the next run.
 //! - `run WORD ..` runs the top call, where the file is named F, and prints out, err and `status N`.
+//!   A WORD may be `N*WORD` for N times that word.
 //!   `last WORD ..` does the same, and prints of out the number of its lines and the last of them.
 //! - `call NAME HEX` makes one call of a cut over these bytes, and prints its answer.
 //! - `peak N` prints whether the program has taken at most N bytes of memory so far.

@@ -96,10 +96,14 @@ fn elf_bytes(
     Ok(builder.finish()?)
 }
 
+/// The words of a line: a word `N*WORD` stands for N times that word.
 fn words_of(alloc: Global, line: &str) -> io::Result<Vec<String>> {
     let mut words = Vec::new(alloc);
     for word in line.split_whitespace() {
-        words.push(String::from_str(alloc, word)?)?;
+        let (times, word) = word.split_once('*').unwrap_or(("1", word));
+        for _ in 0..times.parse::<u32>().unwrap_or(0) {
+            words.push(String::from_str(alloc, word)?)?;
+        }
     }
     Ok(words)
 }

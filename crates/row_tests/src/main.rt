@@ -14,6 +14,7 @@
 //!   puts zeros behind the file in the next run, up to N bytes. Such a file has no twin.
 //! - `fail NAME CALL` lets that call of the source, of out or of err fail in the next run.
 //! - `run WORD ..` runs the top call, where the file is named F, and prints out, err and `status N`.
+//!   A WORD may be `N*WORD` for N times that word.
 //!   `last WORD ..` does the same, and prints of out the number of its lines and the last of them.
 //!   Where the file has a twin and no call fails, the top call runs on that too, and what it prints
 //!   stands behind it if it isn't the same.

@@ -1,4 +1,5 @@
 pub mod Ended
 pub mod FirstRefusalLaws
+pub mod LinesSent
 pub mod SectionsText
 pub mod UnitsPrinted

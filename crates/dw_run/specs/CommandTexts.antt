@@ -31,3 +31,8 @@ units_printed text unit (suc n) = unit_printed unit (text unit) (units_printed t
 abbrev pub Prints : {E : Type 0} → Result (Option Refusal) E → CommandText → Option (List ℕ) → Option (List ℕ) → Type 0
 Prints (Ok refusal) printed old new = (refusal ≡ printed.refusal) × Gains old new printed.text
 Prints (Err stop) printed old new = GainsPart old new printed.text
+
+-- A front of a text that was kept went out, and the rest is kept; or the sink stopped within it.
+abbrev pub Sends : {E : Type 0} → Result (Unit {0}) E → List ℕ → List ℕ → Option (List ℕ) → Option (List ℕ) → Type 0
+Sends (Ok u) kept rest old new = (sent : List ℕ) × (kept ≡ sent ++ rest) × Gains old new sent
+Sends (Err stop) kept rest old new = GainsPart old new kept

@@ -2,7 +2,7 @@
 use Rattle.std.specs.Prelude.{ℕ, ◌+◌, List, [], ◌∷◌, ◌++◌, Option, Some, None}
 use Rattle.dw_fields.specs.declared.fault_code.Fault.{Fault}
 use Rattle.elf_sections.specs.Rows.{ElfView, SectionRow}
-use Rattle.elf_sections.specs.Shapes.{sections_of}
+use Rattle.elf_sections.specs.Shapes.{SectionsView, sections_of}
 use Rattle.unit_text.specs.SectionLine.{section_line}
 use Rattle.unit_text.specs.Tables.{tables_text}
 use Rattle.dw_words.specs.declared.command.Command.{Command}
@@ -29,9 +29,13 @@ tables_end (Some fault) = Some (refusals.Tables fault)
 unfoldable pub tables_printed : List ℕ → CommandText
 tables_printed section = record { text = (tables_text section).0; refusal = tables_end (tables_text section).1 }
 
+-- what is printed of the sections with debugging data
+abbrev pub text_of_sections : (SectionsView → CommandText) → ElfView → CommandText
+text_of_sections text elf = text (sections_of elf)
+
 -- a part of each unit
 abbrev pub part_of_elf : Part → ElfView → CommandText
-part_of_elf part elf = part_of_units part (sections_of elf)
+part_of_elf part = text_of_sections (part_of_units part)
 
 abbrev pub text_of_command : Command → ElfView → CommandText
 text_of_command commands.Units elf = part_of_elf parts.Line elf

@@ -2,10 +2,11 @@
 use Rattle.std.specs.Prelude.{List, Option, Some, None, option_and_then, if◌then◌else◌}
 use Rattle.elf_sections.specs.Rows.{ElfView}
 use Rattle.dw_words.specs.GivenWords.{Text}
-use Rattle.dw_words.specs.Requests.{RequestView, of_file, of_dump, meaning_of}
+use Rattle.dw_words.specs.Requests.{RequestView, of_addresses, of_dump, of_file, meaning_of}
 use Rattle.dw_run.specs.declared.parts.Part.TheVariants as parts
 use Rattle.dw_run.specs.CommandTexts.{CommandText}
-use Rattle.dw_run.specs.Commands.{part_of_elf, text_of_command}
+use Rattle.dw_run.specs.AddressLines.{addresses_printed}
+use Rattle.dw_run.specs.Commands.{part_of_elf, text_of_command, text_of_sections}
 
 -- the name of a file, and what is printed of its sections
 pub record FileRequest : Type 0 where
@@ -20,6 +21,7 @@ on_file file text = record { file = file; text = text }
 unfoldable pub file_request_of : RequestView → Option FileRequest
 file_request_of (of_file command file) = Some (on_file file (text_of_command command))
 file_request_of (of_dump file workers stats) = if stats then None else Some (on_file file (part_of_elf parts.Entries))
+file_request_of (of_addresses file addresses) = Some (on_file file (text_of_sections (addresses_printed addresses)))
 file_request_of request = None
 
 -- what the words after the program's name ask for

@@ -1,3 +1,4 @@
+pub mod AddressLines
 pub mod Commands
 pub mod CommandTexts
 pub mod FirstRefusal

@@ -2,11 +2,12 @@
 
 ghost use Rattle.dw_outside.specs.Faults.{HasCause};
 ghost use Rattle.dw_outside.specs.declared.stops.WriteStop.TheVariants as write_stops;
-ghost use Rattle.dw_run.specs.Commands.{command_of, part_of_elf, text_of_command};
+ghost use Rattle.dw_run.specs.Commands.{command_of, text_of_command};
 ghost use Rattle.dw_run.specs.CommandTexts.{Prints};
 ghost use Rattle.dw_run.specs.Output.{text_of_file};
 
 use crate::file_command::FileCommand;
+use crate::opened::{OpenedCommand, open_and_print};
 use crate::parts::Part;
 use crate::refusals::Refusal;
 use crate::section_lines::print_sections;
@@ -15,7 +16,7 @@ use crate::units::{print_parts, print_unit_lines};
 use dw_outside::{Sink, WriteStop};
 use dw_words::Command;
 use elf_sections::{Elf, OpenRefusal};
-use handle_cache::Handle;
+use handle_cache::{Handle, HandlePass};
 use std::alloc::Global;
 
 /// A command that looks no declaration up: it reads the headers of sections or units, or the
@@ -45,8 +46,8 @@ impl FileCommand for Command {
             Command::Units => print_table(alloc, TableCommand::Units, file, out),
             Command::Sections => print_table(alloc, TableCommand::Sections, file, out),
             Command::Abbrev => print_table(alloc, TableCommand::Abbrev, file, out),
-            Command::Lines => print_opened(alloc, Part::LineTable, file, out),
-            Command::Ranges => print_opened(alloc, Part::Lists, file, out),
+            Command::Lines => open_and_print(alloc, Part::LineTable, file, out),
+            Command::Ranges => open_and_print(alloc, Part::Lists, file, out),
         }
     }
 }
@@ -62,7 +63,23 @@ impl FileCommand for Part {
         file: &[u8],
         out: &mut O,
     ) -> Result<Option<Refusal>, WriteStop> {
-        print_opened(alloc, self, file, out)
+        open_and_print(alloc, self, file, out)
+    }
+}
+
+impl OpenedCommand for Part {
+    ghost use Rattle.dw_run.specs.Parts.{part_of_units};
+
+    ghost text = { part_of_units };
+
+    fn print_opened<'f, O: Sink>(
+        self,
+        alloc: Global,
+        handle: &Handle<'f>,
+        pass: &mut HandlePass<'f>,
+        out: &mut O,
+    ) -> Result<Option<Refusal>, WriteStop> {
+        print_parts(alloc, self, handle, pass, out)
     }
 }
 
@@ -101,24 +118,5 @@ fn print_elf<O: Sink>(
         TableCommand::Units => print_unit_lines(alloc, &elf.debug_sections(), out),
         TableCommand::Sections => print_sections(alloc, elf.sections(), out),
         TableCommand::Abbrev => print_tables(alloc, elf.debug_sections().abbrev, out),
-    }
-}
-
-/// Opens the file for one reader, and writes a part of each of its units.
-#[tactic(auto, unfolding(crate::specs::Output::text_of_file))]
-fn print_opened<O: Sink>(
-    alloc: Global,
-    part: Part,
-    file: &[u8],
-    out: &mut O,
-) -> Result<Option<Refusal>, WriteStop>
-    ensures printed { Prints result (text_of_file (part_of_elf part) file.now)
-        (O.held out.old) (O.held out.new) }
-    ensures cause { HasCause write_stops.Failed (O.faults out.old) (O.faults out.new) result }
-{
-    match Handle::open(alloc, file, 1) {
-        Ok((handle, mut pass)) => print_parts(alloc, part, &handle, &mut pass, out),
-        Err(OpenRefusal::Refused(refusal)) => Ok(Some(Refusal::File(refusal))),
-        Err(OpenRefusal::OutOfMemory) => Err(WriteStop::OutOfMemory),
     }
 }

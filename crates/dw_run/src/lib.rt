@@ -10,10 +10,13 @@
 //! or its lists. A [`UnitReader`] looks up what the unit's text needs.
 #![tactic(auto)]
 
+mod address_lines;
+mod addresses;
 mod commands;
 mod endings;
 mod file_command;
 mod laws;
+mod opened;
 mod parts;
 mod program;
 mod refusal_lines;

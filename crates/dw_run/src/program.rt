@@ -9,6 +9,7 @@ ghost use Rattle.dw_run.specs.Endings.{EndsWith, misunderstood_line, unread_line
 ghost use Rattle.dw_run.specs.FileRequests.{asked_by, file_request_of};
 ghost use Rattle.dw_run.specs.Output.{EndsRun, Meets, NothingFailed, StopsWithin, output_of};
 
+use crate::addresses::Addresses;
 use crate::endings::{NO_MEANING, NO_MEMORY, end_with};
 use crate::file_command::answer_on_file;
 use crate::parts::Part;
@@ -112,7 +113,12 @@ fn answer<S: Source, O: Sink, E: Sink>(
             }
             answer_on_file(alloc, Part::Entries, file, source, out, err)
         }
-        Request::Addresses { .. } => end_misunderstood(err),
+        Request::Addresses { file, addresses } => {
+            let command = Addresses {
+                addresses: addresses.as_slice(),
+            };
+            answer_on_file(alloc, command, file, source, out, err)
+        }
         Request::Query { .. } => end_misunderstood(err),
         Request::Exercise { .. } => end_misunderstood(err),
     }

@@ -1,6 +1,8 @@
 -- The file of the given sections: our own choice of a shape that the gABI allows.
 use Rattle.std.specs.Prelude.{ℕ, ◌+◌, List, [], ◌∷◌, ◌++◌, length, replicate, codes}
-use Rattle.elf_builder.specs.Given.{Given}
+use Rattle.elf_sections.specs.declared.class_layout.ClassLayout.{ClassLayout}
+use Rattle.elf_sections.specs.Headers.{file_header_size, section_header_size}
+use Rattle.elf_builder.specs.Given.{Given, GivenFile}
 use Rattle.elf_builder.specs.Headers.{file_header_bytes, section_header}
 
 -- the bytes of the sections, in order and without gaps
@@ -22,15 +24,16 @@ unfoldable pub own_name : List ℕ
 own_name = codes ".shstrtab" ++ 0 ∷ []
 
 -- the header of section 0, which says nothing
-unfoldable pub no_header : List ℕ
-no_header = replicate 64 0
+unfoldable pub no_header : ClassLayout → List ℕ
+no_header layout = replicate (section_header_size layout) 0
 
 -- the headers of the sections, the first of which has its name at `name` among the names and its
 -- bytes at `place` in the file; their type is 1 (SHT_PROGBITS)
-unfoldable pub given_headers : ℕ → ℕ → List Given → List ℕ
-given_headers name place [] = []
-given_headers name place (s ∷ sections) =
-    section_header name 1 place (length s.bytes) ++ given_headers (name + length s.name + 1) (place + length s.bytes) sections
+unfoldable pub given_headers : ClassLayout → ℕ → ℕ → List Given → List ℕ
+given_headers layout name place [] = []
+given_headers layout name place (s ∷ sections) =
+    section_header layout name 1 place (length s.bytes)
+    ++ given_headers layout (name + length s.name + 1) (place + length s.bytes) sections
 
 -- the names of all sections, the last of which is that of the names themselves
 abbrev pub all_names : List Given → List ℕ
@@ -43,10 +46,10 @@ parts_of sections = given_contents sections ++ all_names sections
 
 -- the file's header, the bytes and the names, and the section headers: that of section 0, one for
 -- each given section, and one of type 3 (SHT_STRTAB) for the names
-unfoldable pub elf_file_of : List Given → List ℕ
-elf_file_of sections =
-    file_header_bytes (64 + length (parts_of sections)) (length sections)
-    ++ parts_of sections
-    ++ no_header
-    ++ given_headers 1 64 sections
-    ++ section_header (length (given_names sections)) 3 (64 + length (given_contents sections)) (length (all_names sections))
+unfoldable pub elf_file_of : GivenFile → List ℕ
+elf_file_of file =
+    file_header_bytes file.layout (file_header_size file.layout + length (parts_of file.sections)) (length file.sections)
+    ++ parts_of file.sections
+    ++ no_header file.layout
+    ++ given_headers file.layout 1 (file_header_size file.layout) file.sections
+    ++ section_header file.layout (length (given_names file.sections)) 3 (file_header_size file.layout + length (given_contents file.sections)) (length (all_names file.sections))

@@ -1,65 +1,91 @@
 //! The header of the file and the headers of its sections (gABI, 'ELF Header' and 'Sections').
 ghost use Rattle.std.specs.Prelude.{◌≡◌, ◌<◌, ◌^◌, ◌++◌, OnOk};
-ghost use Rattle.elf_builder.specs.Headers.{identification, front, back, file_header_bytes, section_header};
+ghost use Rattle.elf_builder.specs.Headers.{identification, class_number as class_number_of, encoding_number as encoding_number_of, front, back, file_header_bytes, section_header};
 
-use super::fields::{push_half, push_long, push_word};
+use super::fields::{push_u16, push_u32, push_word};
+use super::sizes::{file_header_size, section_header_size};
+use dw_fields::Order;
+use elf_sections::ClassLayout;
 use std::alloc::AllocError;
-
-/// The first bytes of the file: the magic number, class 2 (64-bit), byte order 1 (little), version
-/// 1, and nine bytes of padding.
-const IDENTIFICATION: [u8; 16] = [127, 69, 76, 70, 2, 1, 1, 0, 0, 0, 0, 0, 0, 0, 0, 0];
 
 /// Appends the file's header, which names the place of the section headers and how many sections
 /// were given.
 #[tactic(auto, unfolding(crate::specs::Headers::file_header_bytes))]
 pub(super) fn push_file_header(
     out: &mut Vec<u8>,
+    layout: ClassLayout,
     headers: u64,
     given: u64,
 ) -> Result<(), AllocError>
     requires { given < 2 ^ 63 }
-    ensures { OnOk result (out.new.items ≡ out.old.items ++ file_header_bytes headers given) }
+    ensures { OnOk result
+        (out.new.items ≡ out.old.items ++ file_header_bytes layout headers given) }
 {
-    push_identification(out)?;
-    push_front(out, headers)?;
-    push_back(out, given)?;
+    push_identification(out, layout)?;
+    push_front(out, layout, headers)?;
+    push_back(out, layout, given)?;
     Ok(())
 }
 
-#[tactic(auto, unfolding(crate::specs::Headers::identification))]
-fn push_identification(out: &mut Vec<u8>) -> Result<(), AllocError>
-    ensures { OnOk result (out.new.items ≡ out.old.items ++ identification) }
+/// The number of a class.
+#[tactic(auto, unfolding(crate::specs::Headers::class_number))]
+fn class_number(wide: bool) -> u8
+    ensures { result ≡ class_number_of wide }
 {
-    out.extend_from_slice(&IDENTIFICATION)
+    if wide { 2 } else { 1 }
+}
+
+/// The number of a byte order.
+#[tactic(auto, unfolding(crate::specs::Headers::encoding_number))]
+fn encoding_number(order: Order) -> u8
+    ensures { result ≡ encoding_number_of order }
+{
+    match order {
+        Order::Little => 1,
+        Order::Big => 2,
+    }
+}
+
+/// The first bytes of the file: the magic number, its class and byte order, version 1, and nine
+/// bytes of padding.
+#[tactic(auto, unfolding(crate::specs::Headers::identification))]
+fn push_identification(out: &mut Vec<u8>, layout: ClassLayout) -> Result<(), AllocError>
+    ensures { OnOk result (out.new.items ≡ out.old.items ++ identification layout) }
+{
+    let class = class_number(layout.wide);
+    let encoding = encoding_number(layout.order);
+    out.extend_from_slice(&[
+        127, 69, 76, 70, class, encoding, 1, 0, 0, 0, 0, 0, 0, 0, 0, 0,
+    ])
 }
 
 /// The fields from e_type to e_shoff.
 #[tactic(auto, unfolding(crate::specs::Headers::front))]
-fn push_front(out: &mut Vec<u8>, headers: u64) -> Result<(), AllocError>
-    ensures { OnOk result (out.new.items ≡ out.old.items ++ front headers) }
+fn push_front(out: &mut Vec<u8>, layout: ClassLayout, headers: u64) -> Result<(), AllocError>
+    ensures { OnOk result (out.new.items ≡ out.old.items ++ front layout headers) }
 {
-    push_half(out, 2)?;
-    push_half(out, 62)?;
-    push_word(out, 1)?;
-    push_long(out, 0)?;
-    push_long(out, 0)?;
-    push_long(out, headers)?;
+    push_u16(out, layout.order, 2)?;
+    push_u16(out, layout.order, 62)?;
+    push_u32(out, layout.order, 1)?;
+    push_word(out, layout, 0)?;
+    push_word(out, layout, 0)?;
+    push_word(out, layout, headers)?;
     Ok(())
 }
 
 /// The fields from e_flags to e_shstrndx.
 #[tactic(auto, unfolding(crate::specs::Headers::back))]
-fn push_back(out: &mut Vec<u8>, given: u64) -> Result<(), AllocError>
+fn push_back(out: &mut Vec<u8>, layout: ClassLayout, given: u64) -> Result<(), AllocError>
     requires { given < 2 ^ 63 }
-    ensures { OnOk result (out.new.items ≡ out.old.items ++ back given) }
+    ensures { OnOk result (out.new.items ≡ out.old.items ++ back layout given) }
 {
-    push_word(out, 0)?;
-    push_half(out, 64)?;
-    push_half(out, 0)?;
-    push_half(out, 0)?;
-    push_half(out, 64)?;
-    push_half(out, given + 2)?;
-    push_half(out, given + 1)?;
+    push_u32(out, layout.order, 0)?;
+    push_u16(out, layout.order, file_header_size(layout))?;
+    push_u16(out, layout.order, 0)?;
+    push_u16(out, layout.order, 0)?;
+    push_u16(out, layout.order, section_header_size(layout))?;
+    push_u16(out, layout.order, given + 2)?;
+    push_u16(out, layout.order, given + 1)?;
     Ok(())
 }
 
@@ -68,22 +94,24 @@ fn push_back(out: &mut Vec<u8>, given: u64) -> Result<(), AllocError>
 #[tactic(auto, unfolding(crate::specs::Headers::section_header))]
 pub(super) fn push_section_header(
     out: &mut Vec<u8>,
+    layout: ClassLayout,
     name: u64,
     kind: u64,
     place: u64,
     size: u64,
 ) -> Result<(), AllocError>
-    ensures { OnOk result (out.new.items ≡ out.old.items ++ section_header name kind place size) }
+    ensures { OnOk result
+        (out.new.items ≡ out.old.items ++ section_header layout name kind place size) }
 {
-    push_word(out, name)?;
-    push_word(out, kind)?;
-    push_long(out, 0)?;
-    push_long(out, 0)?;
-    push_long(out, place)?;
-    push_long(out, size)?;
-    push_word(out, 0)?;
-    push_word(out, 0)?;
-    push_long(out, 1)?;
-    push_long(out, 0)?;
+    push_u32(out, layout.order, name)?;
+    push_u32(out, layout.order, kind)?;
+    push_word(out, layout, 0)?;
+    push_word(out, layout, 0)?;
+    push_word(out, layout, place)?;
+    push_word(out, layout, size)?;
+    push_u32(out, layout.order, 0)?;
+    push_u32(out, layout.order, 0)?;
+    push_word(out, layout, 1)?;
+    push_word(out, layout, 0)?;
     Ok(())
 }

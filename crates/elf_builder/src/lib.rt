@@ -1,6 +1,6 @@
-//! Builds ELF files of one fixed shape, out of named sections: little-endian ELF64 with nothing but
-//! the given sections and the table of their names (gABI, chapter 4). Tests and generators make
-//! their files with it.
+//! Builds ELF files of one fixed shape, out of named sections: nothing but the given sections and
+//! the table of their names, in either class and byte order (gABI, chapter 4). Tests and generators
+//! make their files with it.
 //!
 //! [`ElfBuilder`] promises the whole file, byte by byte, as its definition spells it field by
 //! field.
@@ -11,5 +11,6 @@ mod fields;
 mod file_plan;
 mod headers;
 mod sections;
+mod sizes;
 
 pub use builder::ElfBuilder;

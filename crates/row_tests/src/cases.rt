@@ -1,12 +1,13 @@
 //! A row: its file, the calls that are to fail in its next run, and what was printed.
 
+use crate::files::RowFile;
 use std::alloc::{AllocError, Global};
 use std::io::{self, Write};
 
 /// What the next run reads, which calls fail in it, and what the runs so far printed.
 #[derive(Drop)]
 pub struct Case {
-    pub file: Vec<u8>,
+    pub file: RowFile,
     /// How long the file is made by zeros behind it, where that is longer than it is.
     pub length: u64,
     pub failing_source: Vec<u64>,
@@ -23,7 +24,7 @@ impl Case {
     /// A row with an empty file, in which no call fails.
     pub fn new(alloc: Global) -> Case {
         Case {
-            file: Vec::new(alloc),
+            file: RowFile::alone(Vec::new(alloc)),
             length: 0,
             failing_source: Vec::new(alloc),
             failing_out: Vec::new(alloc),
@@ -46,17 +47,39 @@ impl Case {
 
     /// Keeps the first `length` bytes of the file.
     pub fn cut(&mut self, length: usize) {
-        self.file.truncate(length);
+        self.file.twin = None;
+        self.file.bytes.truncate(length);
     }
 
     /// Overwrites the file from byte `place` on, as far as it goes.
     pub fn set(&mut self, place: usize, bytes: &[u8]) {
+        self.file.twin = None;
         for (i, byte) in bytes.iter().enumerate() {
             if let Some(at) = place.checked_add(i) {
-                if let Some(old) = self.file.get_mut(at) {
+                if let Some(old) = self.file.bytes.get_mut(at) {
                     *old = *byte;
                 }
             }
+        }
+    }
+
+    /// Puts zeros behind the file in the next run, up to so many bytes.
+    pub fn lengthen(&mut self, length: u64) {
+        self.file.twin = None;
+        self.length = length;
+    }
+
+    /// The same sections in a 32-bit big-endian file, where the next run means the same for it.
+    pub fn twin(&self) -> Result<Option<Vec<u8>>, AllocError> {
+        if !self.failing_source.is_empty()
+            || !self.failing_out.is_empty()
+            || !self.failing_err.is_empty()
+        {
+            return Ok(None);
+        }
+        match &self.file.twin {
+            Some(twin) => Ok(Some(twin.clone()?)),
+            None => Ok(None),
         }
     }
 

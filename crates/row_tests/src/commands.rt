@@ -2,10 +2,11 @@
 
 use crate::calls::call;
 use crate::cases::Case;
-use crate::files::NamedFiles;
+use crate::files::{NamedFiles, RowFile};
 use crate::hex::{bytes_of, joined_bytes_of};
 use crate::padded::PaddedSource;
 use crate::peak::peak_text;
+use dw_fields::Order;
 use dw_outside::{MemorySink, MemorySource, Source};
 use dw_run::{ElfBuilder, run};
 use std::alloc::Global;
@@ -27,14 +28,17 @@ pub fn run_line<R: Print + Files + AllocGlobal>(
             row.begin(alloc, rest)?;
         }
         "elf" => row.file = elf_file(alloc, rest)?,
-        "raw" => row.file = bytes_of(alloc, rest)?,
-        "name" => files.keep(alloc, rest, row.file.as_slice())?,
-        "file" => row.file = Vec::from_slice(alloc, files.find(rest))?,
-        "long" => row.length = rest.parse::<u64>().unwrap_or(0),
+        "elf-32-little" => row.file = shaped_file(alloc, rest, false, Order::Little)?,
+        "elf-32-big" => row.file = shaped_file(alloc, rest, false, Order::Big)?,
+        "elf-64-big" => row.file = shaped_file(alloc, rest, true, Order::Big)?,
+        "raw" => row.file = RowFile::alone(bytes_of(alloc, rest, Order::Little)?),
+        "name" => files.keep(alloc, rest, &row.file)?,
+        "file" => row.file = files.find(alloc, rest)?,
+        "long" => row.lengthen(rest.parse::<u64>().unwrap_or(0)),
         "cut" => row.cut(rest.parse::<usize>().unwrap_or(0)),
         "set" => {
             let (place, hex) = rest.split_once(' ').unwrap_or(("", ""));
-            let bytes = bytes_of(alloc, hex)?;
+            let bytes = bytes_of(alloc, hex, Order::Little)?;
             row.set(place.parse::<usize>().unwrap_or(0), bytes.as_slice());
         }
         "fail" => {
@@ -45,7 +49,7 @@ pub fn run_line<R: Print + Files + AllocGlobal>(
         "last" => answer(alloc, row, rest, true)?,
         "call" => {
             let (name, hex) = rest.split_once(' ').unwrap_or((rest, ""));
-            let bytes = bytes_of(alloc, hex)?;
+            let bytes = bytes_of(alloc, hex, Order::Little)?;
             row.print(call(alloc, name, bytes.as_slice())?.as_bytes())?;
         }
         "peak" => {
@@ -59,70 +63,121 @@ pub fn run_line<R: Print + Files + AllocGlobal>(
     Ok(())
 }
 
-fn elf_file(alloc: Global, sections: &str) -> io::Result<Vec<u8>> {
-    let mut builder = ElfBuilder::new(alloc);
+/// A 64-bit little-endian file of the sections, and its twin.
+fn elf_file(alloc: Global, sections: &str) -> io::Result<RowFile> {
+    let bytes = elf_bytes(alloc, sections, ElfBuilder::new(alloc), Order::Little)?;
+    let builder = ElfBuilder::shaped(alloc, false, Order::Big);
+    let twin = elf_bytes(alloc, sections, builder, Order::Big)?;
+    Ok(RowFile {
+        bytes,
+        twin: Some(twin),
+    })
+}
+
+/// A file of this class and byte order, of sections whose bytes are taken as they stand.
+fn shaped_file(alloc: Global, sections: &str, wide: bool, order: Order) -> io::Result<RowFile> {
+    let builder = ElfBuilder::shaped(alloc, wide, order);
+    let bytes = elf_bytes(alloc, sections, builder, Order::Little)?;
+    Ok(RowFile::alone(bytes))
+}
+
+/// The file that a builder makes of the sections, whose numbers have this byte order.
+fn elf_bytes(
+    alloc: Global,
+    sections: &str,
+    mut builder: ElfBuilder,
+    order: Order,
+) -> io::Result<Vec<u8>> {
     for section in sections.split_whitespace() {
         let (name, hex) = section.split_once('=').unwrap_or((section, ""));
-        let bytes = joined_bytes_of(alloc, hex)?;
+        let bytes = joined_bytes_of(alloc, hex, order)?;
         builder.add(name, bytes.as_slice())?;
     }
     Ok(builder.finish()?)
 }
 
+/// The words of a line: a word `N*WORD` stands for N times that word.
 fn words_of(alloc: Global, line: &str) -> io::Result<Vec<String>> {
     let mut words = Vec::new(alloc);
     for word in line.split_whitespace() {
-        words.push(String::from_str(alloc, word)?)?;
+        let (times, word) = word.split_once('*').unwrap_or(("1", word));
+        for _ in 0..times.parse::<u32>().unwrap_or(0) {
+            words.push(String::from_str(alloc, word)?)?;
+        }
     }
     Ok(words)
 }
 
+/// Prints what the top call prints on the row's file. Its twin must print the same.
 fn answer(alloc: Global, row: &mut Case, line: &str, counted: bool) -> io::Result<()> {
     let words = words_of(alloc, line)?;
-    if row.length > row.file.len() as u64 {
-        let file = row.file.clone()?;
+    let printed = text_of_run(alloc, row, words.as_slice(), counted)?;
+    row.print(printed.as_slice())?;
+    if let Some(twin) = row.twin()? {
+        let mut source = named_source(alloc, row, twin)?;
+        let other = text_from(alloc, row, words.as_slice(), &mut source, counted)?;
+        if other.as_slice() != printed.as_slice() {
+            row.print(b"as a 32-bit big-endian file:\n")?;
+            row.print(other.as_slice())?;
+        }
+    }
+    row.forgive();
+    Ok(())
+}
+
+/// A source that holds the bytes under the name F.
+fn named_source(alloc: Global, row: &Case, bytes: Vec<u8>) -> io::Result<MemorySource> {
+    let name = String::from_str(alloc, "F")?;
+    let failing = row.failing_source.clone()?;
+    Ok(MemorySource::new(name, bytes, failing))
+}
+
+/// What the top call prints on the row's file.
+fn text_of_run(alloc: Global, row: &Case, words: &[String], counted: bool) -> io::Result<Vec<u8>> {
+    let file = row.file.bytes.clone()?;
+    if row.length > file.len() as u64 {
         let mut source = PaddedSource {
             bytes: file.as_slice(),
             length: row.length,
         };
-        return answer_from(alloc, row, words.as_slice(), &mut source, counted);
+        return text_from(alloc, row, words, &mut source, counted);
     }
-    let name = String::from_str(alloc, "F")?;
-    let mut source = MemorySource::new(name, row.file.clone()?, row.failing_source.clone()?);
-    answer_from(alloc, row, words.as_slice(), &mut source, counted)
+    let mut source = named_source(alloc, row, file)?;
+    text_from(alloc, row, words, &mut source, counted)
 }
 
-fn answer_from<S: Source>(
+/// What the top call prints on what the source holds: out, err and the status.
+fn text_from<S: Source>(
     alloc: Global,
-    row: &mut Case,
+    row: &Case,
     words: &[String],
     source: &mut S,
     counted: bool,
-) -> io::Result<()> {
+) -> io::Result<Vec<u8>> {
     let mut out = MemorySink::new(alloc, row.failing_out.clone()?);
     let mut err = MemorySink::new(alloc, row.failing_err.clone()?);
     let end = run(alloc, words, source, &mut out, &mut err);
-    row.forgive();
+    let mut text = Vec::new(alloc);
     if counted {
-        print_last(alloc, row, out.bytes())?;
+        push_last(alloc, &mut text, out.bytes())?;
     } else {
-        row.print(out.bytes())?;
+        text.extend_from_slice(out.bytes())?;
     }
-    row.print(err.bytes())?;
+    text.extend_from_slice(err.bytes())?;
     let status = end.status;
-    row.print(format!(in alloc; "status {status}\n")?.as_bytes())?;
-    Ok(())
+    text.extend_from_slice(format!(in alloc; "status {status}\n")?.as_bytes())?;
+    Ok(text)
 }
 
 /// How many lines there are, and the last of them.
-fn print_last(alloc: Global, row: &mut Case, bytes: &[u8]) -> io::Result<()> {
+fn push_last(alloc: Global, text: &mut Vec<u8>, bytes: &[u8]) -> io::Result<()> {
     let mut lines = 0u64;
     let mut last = bytes;
     for line in bytes.split_inclusive(|byte| *byte == b'\n') {
         lines = lines.saturating_add(1);
         last = line;
     }
-    row.print(format!(in alloc; "{lines} lines, and the last is\n")?.as_bytes())?;
-    row.print(last)?;
+    text.extend_from_slice(format!(in alloc; "{lines} lines, and the last is\n")?.as_bytes())?;
+    text.extend_from_slice(last)?;
     Ok(())
 }

@@ -1,11 +1,39 @@
-//! Files that rows use again, under names.
+//! Files of rows, and those that are used again, under names.
 
 use std::alloc::{AllocError, Global};
+
+/// A file of a row.
+#[derive(Drop)]
+pub struct RowFile {
+    pub bytes: Vec<u8>,
+    /// The same sections in a 32-bit big-endian file. A file whose bytes a row gave or changed has
+    /// none.
+    pub twin: Option<Vec<u8>>,
+}
+
+impl RowFile {
+    /// A file of which there is no other.
+    pub fn alone(bytes: Vec<u8>) -> RowFile {
+        RowFile { bytes, twin: None }
+    }
+
+    /// The file once more.
+    pub fn again(&self) -> Result<RowFile, AllocError> {
+        let bytes = self.bytes.clone()?;
+        match &self.twin {
+            Some(twin) => Ok(RowFile {
+                bytes,
+                twin: Some(twin.clone()?),
+            }),
+            None => Ok(RowFile { bytes, twin: None }),
+        }
+    }
+}
 
 #[derive(Drop)]
 struct NamedFile {
     name: String,
-    bytes: Vec<u8>,
+    file: RowFile,
 }
 
 /// The files that were named so far.
@@ -22,22 +50,22 @@ impl NamedFiles {
         }
     }
 
-    /// Keeps these bytes under a name.
-    pub fn keep(&mut self, alloc: Global, name: &str, bytes: &[u8]) -> Result<(), AllocError> {
-        let file = NamedFile {
+    /// Keeps the file under a name.
+    pub fn keep(&mut self, alloc: Global, name: &str, file: &RowFile) -> Result<(), AllocError> {
+        let named = NamedFile {
             name: String::from_str(alloc, name)?,
-            bytes: Vec::from_slice(alloc, bytes)?,
+            file: file.again()?,
         };
-        Ok(self.files.push(file)?)
+        Ok(self.files.push(named)?)
     }
 
-    /// The bytes under a name; none where no file has it.
-    pub fn find(&self, name: &str) -> &[u8] {
-        for file in self.files.as_slice() {
-            if file.name.as_str() == name {
-                return file.bytes.as_slice();
+    /// The file under a name; an empty one where no file has it.
+    pub fn find(&self, alloc: Global, name: &str) -> Result<RowFile, AllocError> {
+        for named in self.files.as_slice() {
+            if named.name.as_str() == name {
+                return named.file.again();
             }
         }
-        &[]
+        Ok(RowFile::alone(Vec::new(alloc)))
     }
 }

@@ -14,7 +14,7 @@ use Rattle.map_core.proofs.SizeLemmas.{cells_least, cells_small}
 use Rattle.map_core.proofs.PlaceLemmas.{up_to_last}
 use Rattle.map_core.proofs.TurnLemmas.{drop_own}
 use Rattle.map_cells.specs.Seen.{CellsView, PassView, IsOf}
-use Rattle.map_cells.specs.Steps.{StepFrame, KeySeen, SettledTo, ValueTried, IsPlaced, CountRaised}
+use Rattle.map_cells.specs.Steps.{StepFrame, KeySeen, KeyTried, SettledTo, ValueTried, IsPlaced, CountRaised}
 use Rattle.map_cells.proofs.WalkLemmas.{home_small, looks_same, steps_then, passed_more, passed_one}
 use Rattle.map_cells.proofs.PutLemmas.{holds_other}
 use Rattle.block_moves.specs.Moved.{HoldsWord, HoldsValue}
@@ -146,3 +146,17 @@ pub home_reached : (k : ℕ) (v : View) → Reaches v.layout (look v.known) 0 (s
 home_reached k v =
     let most : 64 ≤ cells_of 0 = cells_least 0 in
     record { steps = 0; within = omega arith; place = refl; passed = record { others = λ j h. absurd (omega arith) } }
+
+-- the cell is claimed now
+pub claimed_now : {fits : List ℕ → ℕ → ℕ → Type 0} (c : CellsView) (g i k : ℕ) (p q : PassView) → SeesFirst c p → IsCell c.layout g i → IsOf c q → KeyTried fits g i k 0 p.knows q.knows → HasClaimed c g i k q
+claimed_now c g i k p q s cell of tried =
+    let won = tried.won refl in
+    record {
+      of_table = of;
+      current = ap (λ (x : List ℕ). is_in 0 x) tried.looks.steps.currents ∙ s.current;
+      below = s.below;
+      claim = won.0;
+      uncounted = tried.uncounted ∙ s.idle.rest.uncounted;
+      place = cell;
+      key = ap (λ (l : Layout). look q.knows.known (key_place l g i)) tried.looks.steps.layout ∙ won.1;
+    }

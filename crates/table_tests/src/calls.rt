@@ -1,10 +1,12 @@
 //! Calls of a table by a pass at rest, and rows of calls with what each must answer.
-ghost use Rattle.std.specs.Prelude.{◌≤◌};
+ghost use Rattle.std.specs.Prelude.{◌≤◌, IfOk};
+ghost use Rattle.map_core.specs.declared.layout.TheConstants.{MOST_ENTRIES, MOST_PASSES};
 ghost use Rattle.map_core.specs.Machine.{IsWord};
 ghost use Rattle.table_tests.specs.States.{Idle};
 
 use map_cells::Cells;
 use share_map::{AnyPair, Full, Kept, Pass, Shape, Table};
+use std::alloc::{AllocError, Global};
 use std::process::Abort;
 
 /// A call, and what it must answer.
@@ -37,6 +39,19 @@ pub(crate) fn word(number: u64) -> u64
     } else {
         number
     }
+}
+
+/// A table of these sizes, and its first pass.
+pub(crate) fn new_table(
+    alloc: Global,
+    capacity: u64,
+    passes: u32,
+) -> Result<(Table<AnyPair>, Pass<AnyPair>), AllocError>
+    requires capacity { (1 ≤ capacity) × (capacity ≤ MOST_ENTRIES) }
+    requires passes { (1 ≤ passes) × (passes ≤ MOST_PASSES) }
+    ensures { IfOk result (λ r. Idle r.0 r.1) }
+{
+    Table::new(alloc, capacity, passes, &AnyPair)
 }
 
 /// The cells of a table, for single steps of this pass.

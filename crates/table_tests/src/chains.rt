@@ -6,7 +6,7 @@ ghost use Rattle.map_core.specs.Machine.{IsWord};
 ghost use Rattle.table_tests.specs.States.{Idle};
 ghost use Rattle.table_tests.specs.CallLists.{placed_count};
 
-use crate::calls::{Call, check_calls, split};
+use crate::calls::{Call, check_calls, new_table, split};
 use crate::sum_pairs::PairsOfSum;
 use map_cells::TagOfFacts;
 use map_core::calls_in_order;
@@ -75,7 +75,7 @@ fn insert_find_join(
 
 #[test]
 fn a_join_puts_own_entries_together(rt: HostRuntime) -> Result<(), Fail> {
-    let (table, mut a) = Table::new(rt.alloc(), 100, 2, &AnyPair)?;
+    let (table, mut a) = new_table(rt.alloc(), 100, 2)?;
     let mut b = split(&rt, &table, &mut a);
     check_calls(
         &rt,

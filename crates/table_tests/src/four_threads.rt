@@ -2,7 +2,7 @@
 ghost use Rattle.std.specs.Prelude.{◌<◌};
 ghost use Rattle.table_tests.specs.States.{Idle};
 
-use crate::calls::{find, insert, join, split};
+use crate::calls::{find, insert, join, new_table, split};
 use crate::start::meet;
 use share_map::{AnyPair, Full, Kept, Pass, Table};
 use std::process::Abort;
@@ -224,9 +224,9 @@ fn race_four<R: Abort + Threads + Sync>(rt: &R, table: &Table<AnyPair>, mut a: P
 #[test]
 fn threads_agree_on_the_value_of_each_key(rt: HostRuntime) -> Result<(), Fail> {
     for _ in 0..100 {
-        let (table, pass) = Table::new(rt.alloc(), 100, 2, &AnyPair)?;
+        let (table, pass) = new_table(rt.alloc(), 100, 2)?;
         race_two(&rt, &table, pass);
-        let (table, pass) = Table::new(rt.alloc(), 100, 4, &AnyPair)?;
+        let (table, pass) = new_table(rt.alloc(), 100, 4)?;
         race_four(&rt, &table, pass);
     }
     Ok(())

@@ -4,7 +4,7 @@ ghost use Rattle.map_core.specs.Passes.{AtRest};
 ghost use Rattle.map_cells.specs.Seen.{IsOf};
 ghost use Rattle.table_tests.specs.States.{Idle};
 
-use crate::calls::{Call, check_calls, check_found, fill, split, word};
+use crate::calls::{Call, check_calls, check_found, fill, new_table, split, word};
 use crate::hand_steps::{claim_home, close_value, home_of, publish_value, seal_key, sees_first};
 use block_moves::{Helped, help};
 use map_cells::{Cell, Cells, KeyWord};
@@ -130,7 +130,7 @@ fn call_help(table: &Table<AnyPair>, pass: &mut Pass<AnyPair>) -> Helped
 // Keys 5 and 149 have one home among 64 cells.
 #[test]
 fn each_step_finds_the_word_before_it(rt: HostRuntime) -> Result<(), Fail> {
-    let (table, mut pass) = Table::new(rt.alloc(), 1000, 8, &AnyPair)?;
+    let (table, mut pass) = new_table(rt.alloc(), 1000, 8)?;
     check_steps(
         &rt,
         &table,
@@ -171,7 +171,7 @@ fn each_step_finds_the_word_before_it(rt: HostRuntime) -> Result<(), Fail> {
 
 #[test]
 fn a_key_of_a_closed_cell_goes_to_the_next_generation(rt: HostRuntime) -> Result<(), Fail> {
-    let (table, mut pass) = Table::new(rt.alloc(), 1000, 8, &AnyPair)?;
+    let (table, mut pass) = new_table(rt.alloc(), 1000, 8)?;
     check_steps(
         &rt,
         &table,
@@ -206,7 +206,7 @@ fn a_key_of_a_closed_cell_goes_to_the_next_generation(rt: HostRuntime) -> Result
 
 #[test]
 fn keys_go_past_a_sealed_generation(rt: HostRuntime) -> Result<(), Fail> {
-    let (table, mut pass) = Table::new(rt.alloc(), 100, 1, &AnyPair)?;
+    let (table, mut pass) = new_table(rt.alloc(), 100, 1)?;
     assert!(rt; call_seal_cells(&rt, &table, &mut pass, 0, 64) == 64);
     fill(&rt, &table, &mut pass, 1, 61);
     check_found(&rt, &table, &mut pass, 61);
@@ -221,7 +221,7 @@ fn keys_go_past_a_sealed_generation(rt: HostRuntime) -> Result<(), Fail> {
 
 #[test]
 fn a_pass_that_stops_within_a_block_holds_nobody_up(rt: HostRuntime) -> Result<(), Fail> {
-    let (table, mut a) = Table::new(rt.alloc(), 1000, 2, &AnyPair)?;
+    let (table, mut a) = new_table(rt.alloc(), 1000, 2)?;
     let mut b = split(&rt, &table, &mut a);
     fill(&rt, &table, &mut a, 1, 48);
     call_seal_cells(&rt, &table, &mut b, 0, 32);
@@ -239,7 +239,7 @@ fn a_pass_that_stops_within_a_block_holds_nobody_up(rt: HostRuntime) -> Result<(
 
 #[test]
 fn no_move_is_due_of_47_entries(rt: HostRuntime) -> Result<(), Fail> {
-    let (table, mut pass) = Table::new(rt.alloc(), 1000, 1, &AnyPair)?;
+    let (table, mut pass) = new_table(rt.alloc(), 1000, 1)?;
     fill(&rt, &table, &mut pass, 1, 48);
     assert!(rt; call_help(&table, &mut pass) == Helped::Nothing);
     fill(&rt, &table, &mut pass, 48, 49);

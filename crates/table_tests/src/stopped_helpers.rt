@@ -3,7 +3,7 @@ ghost use Rattle.std.specs.Prelude.{◌≡◌, ◌<◌, MatchBool};
 ghost use Rattle.block_moves.specs.Moved.{SeenFinished};
 ghost use Rattle.table_tests.specs.States.{Idle, SeesFirst};
 
-use crate::calls::{Call, cells_for, check_calls, check_found, fill, split};
+use crate::calls::{Call, cells_for, check_calls, check_found, fill, new_table, split};
 use crate::hand_steps::{Steps, claim_on_walk, close_value, move_cell, seal_key, sees_first};
 use block_moves::move_block;
 use map_cells::{Cells, Put};
@@ -211,7 +211,7 @@ fn a_helper_may_stop_at_each_kind_of_step(rt: HostRuntime) -> Result<(), Fail> {
         LastStep::Switches,
     ];
     for last in last_steps {
-        let (table, mut a) = Table::new(rt.alloc(), 1000, 3, &AnyPair)?;
+        let (table, mut a) = new_table(rt.alloc(), 1000, 3)?;
         let b = split(&rt, &table, &mut a);
         let c = split(&rt, &table, &mut a);
         fill(&rt, &table, &mut a, 1, 48);
@@ -225,7 +225,7 @@ fn a_helper_may_stop_at_each_kind_of_step(rt: HostRuntime) -> Result<(), Fail> {
 #[test]
 fn a_helper_may_stop_between_any_two_steps(rt: HostRuntime) -> Result<(), Fail> {
     for limit in 0..MOVE_STEPS + 2 {
-        let (table, mut a) = Table::new(rt.alloc(), 1000, 3, &AnyPair)?;
+        let (table, mut a) = new_table(rt.alloc(), 1000, 3)?;
         let b = split(&rt, &table, &mut a);
         let c = split(&rt, &table, &mut a);
         fill(&rt, &table, &mut a, 1, 48);

@@ -1,11 +1,10 @@
 //! The calls of the table, one after another on one thread.
-use crate::calls::{Call, check_calls, check_found, fill, join, split};
-use share_map::{AnyPair, Table};
+use crate::calls::{Call, check_calls, check_found, fill, join, new_table, split};
 use std::test::Fail;
 
 #[test]
 fn a_table_with_two_passes_keeps_the_first_values(rt: HostRuntime) -> Result<(), Fail> {
-    let (table, mut a) = Table::new(rt.alloc(), 100, 2, &AnyPair)?;
+    let (table, mut a) = new_table(rt.alloc(), 100, 2)?;
     check_calls(
         &rt,
         &table,
@@ -39,7 +38,7 @@ fn a_table_with_two_passes_keeps_the_first_values(rt: HostRuntime) -> Result<(),
 // Keys 5 and 149 have one home among 64 cells, and the home of 144 and 288 is the last of them.
 #[test]
 fn walks_go_past_other_keys_and_wrap(rt: HostRuntime) -> Result<(), Fail> {
-    let (table, mut pass) = Table::new(rt.alloc(), 100, 1, &AnyPair)?;
+    let (table, mut pass) = new_table(rt.alloc(), 100, 1)?;
     check_calls(
         &rt,
         &table,
@@ -64,7 +63,7 @@ fn walks_go_past_other_keys_and_wrap(rt: HostRuntime) -> Result<(), Fail> {
 
 #[test]
 fn a_full_table_stays_as_it_was(rt: HostRuntime) -> Result<(), Fail> {
-    let (table, mut a) = Table::new(rt.alloc(), 64, 2, &AnyPair)?;
+    let (table, mut a) = new_table(rt.alloc(), 64, 2)?;
     let mut b = split(&rt, &table, &mut a);
     fill(&rt, &table, &mut a, 1, 65);
     check_calls(

@@ -1,5 +1,5 @@
 -- How a command's text and the line of its refusal make up an ending.
-use Rattle.std.proofs.Common.{◌≡◌, ◌⊎◌, inl, inr, ℕ, ◌≤◌, ◌<◌, List, [], Option, Some, None, IfSome, IsSome, is_some, option_map, sym, zero, suc, ap, ◌∙◌, arith, refl, take, ◌+◌}
+use Rattle.std.proofs.Common.{◌≡◌, ◌⊎◌, inl, inr, ℕ, ◌≤◌, ◌<◌, List, [], Option, Some, None, IfSome, IsSome, is_some, option_map, sym, zero, suc, ap, ◌∙◌, arith, refl, take, ◌+◌, subst}
 use Rattle.std.proofs.lemmas.Bool.{false≢true}
 use Rattle.dw_outside.specs.Faults.{Rose}
 use Rattle.dw_outside.specs.Gains.{Gains, GainsPart}
@@ -10,7 +10,9 @@ use Rattle.dw_run.specs.declared.refusals.Refusal.{Refusal}
 use Rattle.elf_sections.specs.Rows.{ElfView}
 use Rattle.dw_run.specs.Endings.{EndsRefused, EndsWith, misunderstood_line, no_memory_line, unread_line}
 use Rattle.dw_run.specs.Output.{Ends, EndsRun, Meets, NothingFailed, Output, StopsWithin, err_of, status_of, output_of_request, output_of_text, text_of_file, text_of_table}
+use Rattle.dw_run.specs.AddressLines.{addresses_printed}
 use Rattle.dw_run.specs.CommandTexts.{CommandText}
+use Rattle.dw_run.specs.Commands.{text_of_sections}
 use Rattle.dw_run.specs.FileRequests.{FileRequest, on_file}
 
 -- all was printed, and nothing is refused
@@ -215,3 +217,11 @@ ends_complete request holds status out0 out1 err0 err1 source0 source1 out_fault
     (λ two. false≢true (sym (ap is_some (end.meaningless two)) ∙ some))
     (λ three. nothing.0 (end.read three))
     (λ four. elim (end.written four) [ inl rose ↦ nothing.1 rose | inr rose ↦ nothing.2 rose ])
+
+-- a command over some addresses is the command over equal ones
+pub ends_addresses : (slice addresses : List ℕ) → slice ≡ addresses → (name : List ℕ) (holds : List ℕ → Option (List ℕ)) (status : ℕ)
+    (out0 out1 err0 err1 : Option (List ℕ)) (source0 source1 out_faults0 out_faults1 err_faults0 err_faults1 : ℕ)
+    → EndsRun (Some (on_file name (text_of_sections (addresses_printed slice)))) holds status out0 out1 err0 err1 source0 source1 out_faults0 out_faults1 err_faults0 err_faults1
+    → EndsRun (Some (on_file name (text_of_sections (addresses_printed addresses)))) holds status out0 out1 err0 err1 source0 source1 out_faults0 out_faults1 err_faults0 err_faults1
+ends_addresses slice addresses same name holds status out0 out1 err0 err1 source0 source1 out_faults0 out_faults1 err_faults0 err_faults1 end =
+    subst (λ (xs : List ℕ). EndsRun (Some (on_file name (text_of_sections (addresses_printed xs)))) holds status out0 out1 err0 err1 source0 source1 out_faults0 out_faults1 err_faults0 err_faults1) same end

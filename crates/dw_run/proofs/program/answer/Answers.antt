@@ -1,10 +1,10 @@
 use Rattle.dw_run.specs.FileRequests.{file_request_of}
-use Rattle.dw_run.proofs.Ended.{ends_misunderstood}
+use Rattle.dw_run.proofs.Ended.{ends_addresses, ends_misunderstood}
 use Rattle.dw_run.proofs.program.answer.Goals as goal
 
 pub returns-in-Addresses : goal.returns-in-Addresses
 unfolding file_request_of
-returns-in-Addresses g c = rw c.in-Addresses.is (ends_misunderstood _ _ _ _ _ _ _ _ _ _ c.end_misunderstood-in-Addresses.ensures)
+returns-in-Addresses g c = rw c.in-Addresses.is (ends_addresses _ _ c.as_slice.ensures.value _ _ _ _ _ _ _ _ _ _ _ _ _ c.answer_on_file-in-Addresses.ensures)
 
 pub returns-in-Query : goal.returns-in-Query
 unfolding file_request_of

@@ -1,0 +1,11 @@
+pub mod EntryCounts
+pub mod UnitKeys
+pub mod SeatLaws
+pub mod DumpLaws
+pub mod ReadingLaws
+pub mod DrawLaws
+pub mod ServingLaws
+pub mod GatheringLaws
+pub mod WindowLaws
+pub mod PrintLemmas
+pub mod WindowSums

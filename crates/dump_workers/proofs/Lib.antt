@@ -1,0 +1,4 @@
+pub mod EntryCounts
+pub mod UnitKeys
+pub mod SeatLaws
+pub mod DumpLaws

@@ -1,0 +1,166 @@
+-- What reading a unit leaves of a pass, in the keys that the unit uses.
+use Rattle.std.specs.Prelude.{◌≡◌, ◌⊎◌, refl, ℕ, ◌<◌, ◌^◌, Bool, true, List, [], ◌∷◌, Contains, Option, Some, None, Result, Ok, Err, IfOk, IsOk}
+use Rattle.std.proofs.Common.{sym, ap, ◌∙◌, subst, inl, inr}
+use Rattle.dw_fields.specs.declared.fault_code.Fault.{Fault}
+use Rattle.dw_fields.specs.Span.{Span, at}
+use Rattle.dw_fields.specs.Reading.{◌>>=◌}
+use Rattle.dw_fields.specs.ReaderLaws.{next-IfOk}
+use Rattle.abbrev_decl.specs.Lookup.{Notes, first_declaration, key}
+use Rattle.elf_sections.specs.Shapes.{SectionsView}
+use Rattle.form_values.specs.declared.raw.Widths.{Widths}
+use Rattle.form_values.specs.View.{widths_of}
+use Rattle.unit_headers.specs.declared.header.UnitHeader.{UnitHeader}
+use Rattle.unit_headers.specs.Headers.{unit_count}
+use Rattle.entry_tree.specs.declared.first.RootCode.{RootCode}
+use Rattle.entry_tree.specs.Entries.{attrs_at, coded_at, found_at, first_code_in, root_coded, root_in}
+use Rattle.entry_tree.specs.Keys.{GainsOnly, HasRootCode, IsKeyAmong, IsRootKeyOf, KeysKnown, KeysNoted}
+use Rattle.entry_tree.specs.Units.{BeginsWith, IsFirstEntry, area_of, entries_of, root_code_of, root_of, unit_header}
+use Rattle.entry_tree.specs.Views.{EntryView}
+use Rattle.entry_tree.proofs.KeyLaws.{GainsOnly-then, GainsOnly-weaker, GainsOnly-same}
+use Rattle.map_cells.specs.Seen.{PassView, Follows}
+use Rattle.handle_cache.specs.Handles.{HasWords, IsFactKey, IsRootKey, IsWordKey, front_keys, is_spent, own_keys}
+use Rattle.handle_cache.proofs.Calls.{still_held, still_noted}
+use Rattle.dump_workers.specs.FileKeys.{AreSmallCodes, HasSmallCodes, IsEntryKey, IsFileKey, IsUnitKey, KnowsFile, NotesUnit, ReadsUnits, RefusesNone}
+use Rattle.dump_workers.specs.UnitDumps.{unit_dump}
+
+any : {A : Type 0} (r : Result A Fault) → IfOk r (λ x. Unit {0})
+any (Ok x) = tt
+any (Err f) = tt
+
+-- # The root's key is that of an entry
+
+coded_code : (section : List ℕ) (table : ℕ) (widths : Widths) (depth place code : ℕ) (s : Span) → IfOk (coded_at section table widths depth place code s) (λ r. r.0.1.code ≡ code)
+unfolding coded_at
+coded_code section table widths depth place code s =
+    next-IfOk (λ d. Unit {0}) (λ r. r.0.1.code ≡ code) (found_at place (first_declaration section table code)) _ (any _) (λ d u.
+    next-IfOk (λ d. Unit {0}) (λ r. r.0.1.code ≡ code) (attrs_at widths d.pairs s) _ (any _) (λ attrs v. refl))
+
+begun_among : (table code k : ℕ) (entries : List EntryView) (entry : EntryView) → entry.code ≡ code → code < 2 ^ 32 → k ≡ key table code
+    → BeginsWith entry entries → IsKeyAmong table entries k
+begun_among table code k entries entry same small is begins =
+    rw begins.is (inl (rw same small, is ∙ ap (key table) (sym same)))
+
+rooted_among : (table code k : ℕ) (coded : Result ((Bool × EntryView) × ℕ) Fault) (entries : List EntryView)
+    → IfOk coded (λ r. r.0.1.code ≡ code) → code < 2 ^ 32 → k ≡ key table code
+    → IsFirstEntry (coded >>= (λ entry. Ok (Some (entry.0.1, entry.1)))) (Ok entries) → IsKeyAmong table entries k
+rooted_among table code k (Ok read) entries same small is first = begun_among table code k entries read.0.1 same small is first
+rooted_among table code k (Err f) entries same small is first = absurd (no_error entries f first)
+where
+  no_error : (entries : List EntryView) (f : Fault) → Ok entries ≡ Err f → ⊥
+  no_error entries f e = let same = e in cc
+
+root_among_of : (section : List ℕ) (table : ℕ) (widths : Widths) (s : Span) (code k : ℕ) (first : Result (Option RootCode) Fault) (entries : List EntryView)
+    → HasRootCode first code → code < 2 ^ 32 → k ≡ key table code
+    → IsFirstEntry (first >>= root_coded section table widths s) (Ok entries) → IsKeyAmong table entries k
+root_among_of section table widths s code k (Ok (Some root)) entries has small is first =
+    rooted_among table code k (coded_at section table widths 0 root.place root.code (at s root.next)) entries
+    (rw has (coded_code section table widths 0 root.place root.code (at s root.next))) small is first
+root_among_of section table widths s code k (Ok None) entries has small is first = absurd has
+root_among_of section table widths s code k (Err f) entries has small is first = absurd has
+
+root_among : (s : SectionsView) (header : UnitHeader) (k : ℕ) (read : Result (List EntryView) Fault) (entries : List EntryView) → read ≡ Ok entries
+    → IsFirstEntry (root_of s header) read → IsRootKeyOf header.«abbrev» (root_code_of s header) k → IsKeyAmong header.«abbrev» entries k
+unfolding root_in
+root_among s header k read entries is first root =
+    root_among_of s.«abbrev» header.«abbrev» (widths_of header) (area_of s header) root.code k (root_code_of s header) entries root.has root.small root.is (rw is at first)
+
+-- # What is read of a unit
+
+module _ (s : SectionsView) (unit : ℕ) (header : UnitHeader) (entries : List EntryView)
+    (header_is : unit_header s unit ≡ Ok header) (entries_are : entries_of s header ≡ Ok entries) where
+  among_unit : (k : ℕ) → IsKeyAmong header.«abbrev» entries k → IsUnitKey s unit k
+  among_unit k among = inr (record { header = header; entries = entries; header_is = header_is; entries_are = entries_are; among = among })
+
+  same_header : (other : UnitHeader) → unit_header s unit ≡ Ok other → header ≡ other
+  same_header other is = let both : ◌≡◌ {A = Result UnitHeader Fault} (Ok header) (Ok other) = sym header_is ∙ is in cc
+
+  fact_unit : IsFirstEntry (root_of s header) (entries_of s header) → (k : ℕ) → IsFactKey s unit k → IsUnitKey s unit k
+  fact_unit first k (inl word) = inl word
+  fact_unit first k (inr root) =
+      among_unit k (root_among s header k (entries_of s header) entries entries_are first
+      (subst (λ (h : UnitHeader). IsRootKeyOf h.«abbrev» (root_code_of s h) k) (sym (same_header root.header root.header_is)) root.root))
+
+  -- own entries gain keys of the unit
+  pub unit_gains : (old mid new : List ℕ) → IsFirstEntry (root_of s header) (entries_of s header)
+      → GainsOnly (IsFactKey s unit) old mid → GainsOnly (IsKeyAmong header.«abbrev» entries) mid new → GainsOnly (IsUnitKey s unit) old new
+  unit_gains old mid new first facts among =
+      GainsOnly-then (IsUnitKey s unit) old mid new
+      (GainsOnly-weaker (IsFactKey s unit) (IsUnitKey s unit) old mid (fact_unit first) facts)
+      (GainsOnly-weaker (IsKeyAmong header.«abbrev» entries) (IsUnitKey s unit) mid new among_unit among)
+
+  -- each key of the unit is noted
+  among_noted : (seen : List ℕ) (spent : Bool) (table : ℕ) (es : List EntryView) (k : ℕ) → KeysNoted seen spent table es → IsKeyAmong table es k → Notes seen spent k
+  among_noted seen spent table [] k noted among = absurd among
+  among_noted seen spent table (e ∷ es) k noted (inl here) = rw here.1 (noted.0 here.0)
+  among_noted seen spent table (e ∷ es) k noted (inr there) = among_noted seen spent table es k noted.1 there
+
+  word_noted : (p : PassView) (k : ℕ) → HasWords (front_keys p) unit 8 ⊎ (is_spent p ≡ true) → IsWordKey unit k → Notes (front_keys p) (is_spent p) k
+  word_noted p k (inl has) word = inl (rw word.is (has word.word word.inside))
+  word_noted p k (inr spent) word = inr spent
+
+  entry_noted : (p : PassView) (k : ℕ) → KeysNoted (front_keys p) (is_spent p) header.«abbrev» entries → IsEntryKey s unit k → Notes (front_keys p) (is_spent p) k
+  entry_noted p k noted e =
+      let same : header ≡ e.header = same_header e.header e.header_is in
+      let both : ◌≡◌ {A = Result (List EntryView) Fault} (Ok entries) (Ok e.entries) = sym entries_are ∙ ap (entries_of s) same ∙ e.entries_are in
+      let alike : entries ≡ e.entries = cc in
+      among_noted (front_keys p) (is_spent p) header.«abbrev» entries k noted
+      (subst (λ (h : UnitHeader). IsKeyAmong h.«abbrev» entries k) (sym same) (subst (λ (es : List EntryView). IsKeyAmong e.header.«abbrev» es k) (sym alike) e.among))
+
+  pub unit_noted : (p q : PassView) → Follows p q → HasWords (front_keys p) unit 8 ⊎ (is_spent p ≡ true)
+      → KeysNoted (front_keys q) (is_spent q) header.«abbrev» entries → NotesUnit s unit q
+  unit_noted p q f words noted k (inl word) = still_noted p q k f (word_noted p k words word)
+  unit_noted p q f words noted k (inr e) = entry_noted q k noted e
+
+  -- where the pass knew all, nothing is counted
+  all_known : (seen : List ℕ) (table : ℕ) (es : List EntryView) → AreSmallCodes es → ((k : ℕ) → IsKeyAmong table es k → Contains seen k) → KeysKnown seen table es
+  all_known seen table [] small has = tt
+  all_known seen table (e ∷ es) small has = (
+    small.0,
+    has (key table e.code) (inl (small.0, refl)),
+    all_known seen table es small.1 (λ k among. has k (inr among)),
+  )
+
+  pub unit_counts : (p q : PassView) (before mid after : ℕ) → unit < unit_count s.info s.order → Follows p q
+      → (HasWords (front_keys p) unit 8 → mid ≡ before) → (KeysKnown (front_keys q) header.«abbrev» entries → after ≡ mid)
+      → KnowsFile s (front_keys p) → after ≡ before
+  unit_counts p q before mid after counted f facts area knows =
+      area (all_known (front_keys q) header.«abbrev» entries (knows.codes unit header entries counted header_is entries_are)
+      (λ k among. still_held p q k f (knows.keys k (record { unit = unit; counted = counted; uses = among_unit k among }))))
+      ∙ facts (λ word inside. knows.keys _ (record { unit = unit; counted = counted; uses = inl (record { word = word; inside = inside; is = refl }) }))
+
+-- # Units one after another
+
+pub reads_same : (s : SectionsView) (p : PassView) (steps : ℕ) → ReadsUnits s p p steps steps
+reads_same s p steps = record { gains = λ none. GainsOnly-same (IsFileKey s) (own_keys p); counts = λ none knows. refl }
+
+pub knows_later : (s : SectionsView) (p q : PassView) → Follows p q → KnowsFile s (front_keys p) → KnowsFile s (front_keys q)
+knows_later s p q f knows = record { keys = λ k uses. still_held p q k f (knows.keys k uses); codes = knows.codes }
+
+pub reads_then : (s : SectionsView) (p q r : PassView) (before mid after : ℕ) → Follows p q → ReadsUnits s p q before mid → ReadsUnits s q r mid after → ReadsUnits s p r before after
+reads_then s p q r before mid after f first second = record {
+  gains = λ none. GainsOnly-then (IsFileKey s) (own_keys p) (own_keys q) (own_keys r) (first.gains none) (second.gains none);
+  counts = λ none knows. second.counts none (knows_later s p q f knows) ∙ first.counts none knows;
+}
+
+-- one unit that was read
+pub reads_unit : (s : SectionsView) (unit : ℕ) (p q : PassView) (before after : ℕ) → unit < unit_count s.info s.order
+    → GainsOnly (IsUnitKey s unit) (own_keys p) (own_keys q) → (KnowsFile s (front_keys p) → after ≡ before) → ReadsUnits s p q before after
+reads_unit s unit p q before after counted gains known = record {
+  gains = λ none. GainsOnly-weaker (IsUnitKey s unit) (IsFileKey s) (own_keys p) (own_keys q) (λ k uses. record { unit = unit; counted = counted; uses = uses }) gains;
+  counts = λ none knows. known knows;
+}
+
+refused_none : (r : Result (List ℕ) Fault) (f : Fault) → r ≡ Err f → IsOk r → ⊥
+refused_none (Ok t) f is ok = cc
+refused_none (Err g) f is ok = absurd ok
+
+-- a unit that is refused says nothing
+pub none_refused : {P : Type 0} (s : SectionsView) (unit : ℕ) (f : Fault) → unit < unit_count s.info s.order → unit_dump s unit ≡ Err f → RefusesNone s → P
+none_refused s unit f counted is none = absurd (refused_none (unit_dump s unit) f is (none unit counted))
+
+pub reads_refused : (s : SectionsView) (unit : ℕ) (f : Fault) (p q : PassView) (before after : ℕ) → unit < unit_count s.info s.order → unit_dump s unit ≡ Err f
+    → ReadsUnits s p q before after
+reads_refused s unit f p q before after counted is = record {
+  gains = λ none. none_refused s unit f counted is none;
+  counts = λ none knows. none_refused s unit f counted is none;
+}

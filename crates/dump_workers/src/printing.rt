@@ -1,0 +1,102 @@
+//! The texts of a window's units, in the units' order, into a sink.
+
+ghost use Rattle.std.specs.Prelude.{◌≡◌, ◌<◌, ◌≤◌, ◌+◌, ◌*◌, ◌-◌, ◌^◌, ℕ, Ok, None, IfSome, IfNone, OnNone, OnOk, All, length};
+ghost use Rattle.dw_outside.specs.Faults.{HasCause};
+ghost use Rattle.dw_outside.specs.Gains.{Gains, GainsPart};
+ghost use Rattle.elf_sections.specs.Shapes.{SectionsView};
+ghost use Rattle.unit_draws.specs.Seats.{occurrences};
+ghost use Rattle.unit_draws.specs.Windows.{window_length};
+ghost use Rattle.unit_draws.specs.declared.windows.TheConstants.{WINDOW};
+ghost use Rattle.unit_headers.specs.Headers.{unit_count};
+ghost use Rattle.handle_cache.specs.Handles.{sections_in};
+ghost use Rattle.dump_workers.specs.declared.ends.DumpFault.TheVariants as dump_faults;
+ghost use Rattle.dump_workers.specs.Dumps.{Prints, dump_from};
+ghost use Rattle.dump_workers.specs.Readings.{IsReading, units_read};
+ghost use Rattle.dump_workers.specs.UnitDumps.{entries_from};
+ghost use Rattle.dump_workers.specs.Windows.{ReadsWindow};
+
+use crate::ends::{DumpFault, RefusedUnit};
+use crate::reading::{Reading, UnitRead};
+use dw_outside::{Sink, WriteStop, write_all};
+use handle_cache::Handle;
+
+/// What was read of a unit: the first reading that is of it.
+fn find_reading(readings: &[Reading], unit: u32) -> Option<&UnitRead>
+    ensures found { (s : SectionsView) (window : ℕ) → All (IsReading s window) readings.now
+        → IfSome result (λ read. IsRead s unit read.now) }
+    ensures none { IfNone result (occurrences unit (units_read readings.now) ≡ 0) }
+{
+    for reading in readings {
+        if reading.unit == unit {
+            return Some(&reading.read);
+        }
+    }
+    None
+}
+
+/// Writes the text of a unit.
+///
+/// # Errors
+/// Those of the sink.
+fn print_text<O: Sink>(text: &[u8], out: &mut O) -> Result<(), DumpFault>
+    ensures whole { OnOk result (Gains (O.held out.old) (O.held out.new) text.now) }
+    ensures part { OnErr result (GainsPart (O.held out.old) (O.held out.new) text.now) }
+    ensures cause { HasCause dump_faults.WriteFault (O.faults out.old) (O.faults out.new) result }
+{
+    match write_all(out, text) {
+        Ok(()) => Ok(()),
+        Err(WriteStop::Failed) => Err(DumpFault::WriteFault),
+        Err(WriteStop::OutOfMemory) => Err(DumpFault::OutOfMemory),
+    }
+}
+
+/// Writes the texts of these units, each by one `write_all`, up to the first that is refused, and counts
+/// their entries.
+///
+/// # Errors
+/// Those of the sink.
+pub(crate) fn print_units<O: Sink>(
+    handle: &Handle<'_>,
+    window: u32,
+    readings: &[Reading],
+    start: u32,
+    end: u32,
+    entries: &mut u64,
+    out: &mut O,
+) -> Result<Option<RefusedUnit>, DumpFault>
+    requires from { WINDOW * window ≡ start }
+    requires order { start ≤ end }
+    requires below { end ≤ WINDOW * (window + 1) }
+    requires inside { end ≤ unit_count (sections_in handle.now).info
+        (sections_in handle.now).order }
+    requires reads { ReadsWindow (sections_in handle.now) window readings.now }
+    requires room { entries.old ≤ start * 2 ^ 32 }
+    ensures printed { Prints result (dump_from (sections_in handle.now) start (end - start))
+        (O.held out.old) (O.held out.new) }
+    ensures entries { result ≡ Ok None → entries.new ≡ entries.old
+        + entries_from (sections_in handle.now) start (end - start) }
+    ensures room { result ≡ Ok None → entries.new ≤ end * 2 ^ 32 }
+    ensures cause { HasCause dump_faults.WriteFault (O.faults out.old) (O.faults out.new) result }
+{
+    'units: for unit in start..end {
+        let Some(read) = find_reading(readings, unit) else {
+            return Ok(None);
+        };
+        match read {
+            UnitRead::Whole { text, entries: count } => {
+                match print_text(text.as_slice(), out) {
+                    Ok(()) => {}
+                    Err(fault) => return Err(fault),
+                }
+                *entries += u64::from(*count);
+            }
+            UnitRead::Refused(fault) => {
+                return Ok(Some(RefusedUnit {
+                    unit,
+                    fault: *fault,
+                }));
+            }
+        }
+    }
+    Ok(None)
+}

@@ -1,0 +1,193 @@
+//! What one worker does in a window: it draws units, and reads each that it drew.
+
+ghost use Rattle.std.specs.Prelude.{◌≡◌, ◌<◌, ◌≤◌, ◌++◌, ◌∷◌, [], ℕ, IfOk, OnOk, length, slice_index_or};
+ghost use Rattle.unit_draws.specs.Seats.{IsSeatOf, occurrences};
+ghost use Rattle.unit_draws.specs.Windows.{window_count};
+ghost use Rattle.unit_headers.specs.Headers.{unit_count};
+ghost use Rattle.map_cells.specs.Seen.{Follows};
+ghost use Rattle.handle_cache.specs.Handles.{Belongs, sections_in};
+ghost use Rattle.dump_workers.specs.declared.serving.TheConstants.{MOST_WORKERS};
+ghost use Rattle.dump_workers.specs.FileKeys.{ReadsUnits};
+ghost use Rattle.dump_workers.specs.Seats.{DumpSeatView};
+ghost use Rattle.dump_workers.specs.Windows.{LeavesServed, MayServe, NotesReadings, ServesWindow};
+
+use crate::reading::Reading;
+use crate::seat::{DumpSeat, Work};
+use crate::serving::{Serves, serve_each};
+use crate::unit::read_unit;
+use abbrev_decl::Steps;
+use bumpalo::Bump;
+use dw_outside::Gate;
+use entry_tree::renew;
+use handle_cache::{Handle, HandlePass};
+use std::alloc::{AllocError, Global};
+use std::thread::Threads;
+use unit_draws::{DrawSeat, Draws};
+
+/// Puts what was read of a unit at the list's end.
+fn add_reading(readings: &mut Vec<Reading>, reading: Reading) -> Result<(), AllocError>
+    ensures { OnOk result (readings.new.items ≡ readings.old.items ++ reading ∷ []) }
+{
+    match readings.push(reading) {
+        Ok(()) => Ok(()),
+        Err(_) => Err(AllocError),
+    }
+}
+
+/// Draws units of the window until none is left, and reads each of them, in an arena that is used for one
+/// after another.
+///
+/// # Errors
+/// Want of memory.
+fn work_window<'f, G: Gate, L>(
+    alloc: Global,
+    handle: &Handle<'f>,
+    draws: &Draws,
+    gate: &G,
+    worker: u32,
+    window: u32,
+    pass: &mut HandlePass<'f>,
+    steps: &mut Steps<L>,
+    seat: &mut DrawSeat,
+) -> Result<Vec<Reading>, AllocError>
+    requires belongs { Belongs handle.now pass.old }
+    requires units { draws.now.sizes.units
+        ≡ unit_count (sections_in handle.now).info (sections_in handle.now).order }
+    requires of { IsSeatOf draws.now seat.old }
+    requires window { window < window_count draws.now.sizes.units }
+    requires open { occurrences window seat.old.knows.ended ≡ 0 }
+    ensures belongs { Belongs handle.now pass.new }
+    ensures follows { Follows pass.old pass.new }
+    ensures serves { IfOk result (λ readings. ServesWindow draws.now (sections_in handle.now) window
+        seat.old.knows seat.new readings.items) }
+    ensures noted { IfOk result
+        (λ readings. NotesReadings (sections_in handle.now) pass.new readings.items) }
+    ensures reads { OnOk result (ReadsUnits (sections_in handle.now) pass.old pass.new
+        steps.old steps.new) }
+{
+    let mut arena = Bump::new(alloc);
+    let mut readings = Vec::new(alloc);
+    'units: while let Some(unit) = draws.draw(seat, window) {
+        gate.enter(worker, unit);
+        let reading = match read_unit(alloc, &arena, handle, pass, unit, steps) {
+            Ok(reading) => reading,
+            Err(_) => return Err(AllocError),
+        };
+        gate.leave(worker, unit);
+        match add_reading(&mut readings, reading) {
+            Ok(()) => {}
+            Err(_) => return Err(AllocError),
+        }
+        renew(alloc, &mut arena);
+    }
+    Ok(readings)
+}
+
+/// The work of a window.
+#[derive(Drop)]
+struct WindowWork<'w, 'f, G> {
+    alloc: Global,
+    handle: &'w Handle<'f>,
+    draws: &'w Draws,
+    gate: &'w G,
+    window: u32,
+    ghost units: { draws.now.sizes.units
+        ≡ unit_count (sections_in handle.now).info (sections_in handle.now).order },
+    ghost inside: { window < window_count draws.now.sizes.units },
+}
+
+/// Serves the window in one seat.
+fn serve_seat<'f, G: Gate, L>(
+    alloc: Global,
+    handle: &Handle<'f>,
+    draws: &Draws,
+    gate: &G,
+    worker: u32,
+    window: u32,
+    seat: &mut DumpSeat<'f, L>,
+)
+    requires serve { MayServe handle.now draws.now window seat.old }
+    requires units { draws.now.sizes.units
+        ≡ unit_count (sections_in handle.now).info (sections_in handle.now).order }
+    requires window { window < window_count draws.now.sizes.units }
+    ensures { LeavesServed handle.now draws.now window seat.old seat.new }
+{
+    match seat.change(Work::Idle) {
+        Work::Drawing(mut draw) => {
+            match work_window(
+                alloc,
+                handle,
+                draws,
+                gate,
+                worker,
+                window,
+                &mut seat.pass,
+                &mut seat.steps,
+                &mut draw,
+            ) {
+                Ok(readings) => {
+                    seat.change(Work::Drawn {
+                        seat: draw,
+                        readings,
+                    });
+                }
+                Err(_) => {}
+            }
+        }
+        Work::Idle => {}
+        Work::Drawn { .. } => {}
+    }
+}
+
+impl<'w, 'f, G: Gate, L> Serves<DumpSeat<'f, L>> for WindowWork<'w, 'f, G> {
+    ghost use Rattle.std.specs.Prelude.{◌<◌};
+    ghost use Rattle.dump_workers.specs.declared.serving.TheConstants.{MOST_WORKERS};
+    ghost use Rattle.dump_workers.specs.Windows.{LeavesServed, MayServe};
+
+    ghost accepts = { λ w i seat. (i < MOST_WORKERS) × MayServe w.handle.now w.draws.now w.window seat };
+
+    ghost gives = { λ w i old new. LeavesServed w.handle.now w.draws.now w.window old new };
+
+    fn serve(&self, worker: usize, seat: &mut DumpSeat<'f, L>) {
+        serve_seat(
+            self.alloc,
+            self.handle,
+            self.draws,
+            self.gate,
+            worker as u32,
+            self.window,
+            seat,
+        );
+    }
+}
+
+/// Serves the window in all seats, in a thread each.
+pub(crate) fn serve_all<'f, R: Threads + Sync, G: Gate + Sync, L: Send>(
+    rt: &R,
+    alloc: Global,
+    handle: &Handle<'f>,
+    draws: &Draws,
+    gate: &G,
+    window: u32,
+    seats: &mut Vec<DumpSeat<'f, L>>,
+)
+    requires few { length seats.old.items ≤ MOST_WORKERS }
+    requires serve { (i : ℕ) (d : DumpSeatView) → i < length seats.old.items
+        → MayServe handle.now draws.now window (slice_index_or seats.old.items i d) }
+    requires units { draws.now.sizes.units
+        ≡ unit_count (sections_in handle.now).info (sections_in handle.now).order }
+    requires window { window < window_count draws.now.sizes.units }
+    ensures length { length seats.new.items ≡ length seats.old.items }
+    ensures each { (i : ℕ) (d : DumpSeatView) → i < length seats.old.items
+        → LeavesServed handle.now draws.now window (slice_index_or seats.old.items i d)
+        (slice_index_or seats.new.items i d) }
+{
+    let work = WindowWork {
+        alloc,
+        handle,
+        draws,
+        gate,
+        window,
+    };
+    serve_each(rt, &work, seats.as_mut_slice());
+}

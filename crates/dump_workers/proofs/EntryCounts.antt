@@ -33,21 +33,30 @@ walk_few next one (suc n) state s =
     next-IfOk (λ xs. length xs ≤ n) (λ xs. length xs ≤ suc n) (walk next n found.0.0 (at s found.1)) _ (walk_few next one n found.0.0 (at s found.1))
     (λ others few. one_more found.0.1 others n first few)))
 
+abbrev Step : Type 0
+Step = Result ((ℕ × List EntryView) × ℕ) Fault
+
+abbrev as_step : (ℕ × EntryView) × ℕ → Step
+as_step entry = Ok ((entry.0.0, entry.0.1 ∷ []), entry.1)
+
+abbrev no_step : ℕ → ℕ → Step
+no_step depth next = Ok ((depth - 1, []), next)
+
 entry_choice : (none : Bool) (depth next : ℕ) (entry : Result ((ℕ × EntryView) × ℕ) Fault)
-    → IfOk (cond none (Ok ((depth - 1, []), next)) (entry >>= (λ entry. Ok ((entry.0.0, entry.0.1 ∷ []), entry.1)))) (λ r. length r.0.1 ≤ 1)
+    → IfOk (cond none (no_step depth next) (entry >>= as_step)) (λ r. length r.0.1 ≤ 1)
 entry_choice true depth next entry = omega arith
 entry_choice false depth next (Ok entry) = omega arith
 entry_choice false depth next (Err f) = tt
+
+any : (r : Result (ℕ × ℕ) Fault) → IfOk r (λ x. Unit {0})
+any (Ok x) = tt
+any (Err f) = tt
 
 one_entry : (section : List ℕ) (table : ℕ) (widths : Widths) (depth : ℕ) (s : Span) → IfOk (entry_at section table widths depth s) (λ r. length r.0.1 ≤ 1)
 unfolding entry_at
 one_entry section table widths depth s =
     next-IfOk (λ r. Unit {0}) (λ r. length r.0.1 ≤ 1) (uleb_at s) _ (any (uleb_at s)) (λ code u.
     entry_choice (code.0 == 0) depth code.1 (behind_entry depth (coded_at section table widths depth s.place code.0 (at s code.1))))
-where
-  any : (r : Result (ℕ × ℕ) Fault) → IfOk r (λ x. Unit {0})
-  any (Ok x) = tt
-  any (Err f) = tt
 
 few_in : (section : List ℕ) (table : ℕ) (widths : Widths) (s : Span) → IfOk (entries_in section table widths s) (λ xs. length xs ≤ s.end - s.place)
 unfolding entries_in
@@ -60,7 +69,7 @@ pub few_entries : {X : Type 0} (view : X → EntryView) (s : SectionsView) (head
     → AreShort s → IsUnitOf s header → entries_of s header ≡ Ok (map view xs) → length xs < 2 ^ 32
 few_entries view s header xs short unit is =
     let m : ℕ = length xs in let n : ℕ = length (map view xs) in let all : ℕ = length s.info in
-    let same : n ≡ m = length-map view xs in
+    let same : n ≡ m = length-map xs view in
     let few : n ≤ header.end - header.entries = taken _ (map view xs) _ is (few_in s.«abbrev» header.«abbrev» (widths_of header) (area_of s header)) in
     let ends : header.end ≤ all = unit.ends in
     let small : all < 2 ^ 32 = short.info in

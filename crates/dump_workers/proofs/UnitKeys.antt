@@ -40,21 +40,22 @@ begun_among : (table code k : ℕ) (entries : List EntryView) (entry : EntryView
 begun_among table code k entries entry same small is begins =
     rw begins.is (inl (rw same small, is ∙ ap (key table) (sym same)))
 
+no_error : (entries : List EntryView) (f : Fault) → ◌≡◌ {A = Result (List EntryView) Fault} (Ok entries) (Err f) → ⊥
+no_error entries f e = cc
+
 rooted_among : (table code k : ℕ) (coded : Result ((Bool × EntryView) × ℕ) Fault) (entries : List EntryView)
     → IfOk coded (λ r. r.0.1.code ≡ code) → code < 2 ^ 32 → k ≡ key table code
     → IsFirstEntry (coded >>= (λ entry. Ok (Some (entry.0.1, entry.1)))) (Ok entries) → IsKeyAmong table entries k
 rooted_among table code k (Ok read) entries same small is first = begun_among table code k entries read.0.1 same small is first
 rooted_among table code k (Err f) entries same small is first = absurd (no_error entries f first)
-where
-  no_error : (entries : List EntryView) (f : Fault) → Ok entries ≡ Err f → ⊥
-  no_error entries f e = let same = e in cc
 
 root_among_of : (section : List ℕ) (table : ℕ) (widths : Widths) (s : Span) (code k : ℕ) (first : Result (Option RootCode) Fault) (entries : List EntryView)
     → HasRootCode first code → code < 2 ^ 32 → k ≡ key table code
     → IsFirstEntry (first >>= root_coded section table widths s) (Ok entries) → IsKeyAmong table entries k
 root_among_of section table widths s code k (Ok (Some root)) entries has small is first =
     rooted_among table code k (coded_at section table widths 0 root.place root.code (at s root.next)) entries
-    (rw has (coded_code section table widths 0 root.place root.code (at s root.next))) small is first
+    (subst (λ (c : ℕ). IfOk (coded_at section table widths 0 root.place root.code (at s root.next)) (λ r. r.0.1.code ≡ c)) has
+    (coded_code section table widths 0 root.place root.code (at s root.next))) small is first
 root_among_of section table widths s code k (Ok None) entries has small is first = absurd has
 root_among_of section table widths s code k (Err f) entries has small is first = absurd has
 
@@ -152,7 +153,7 @@ reads_unit s unit p q before after counted gains known = record {
 
 refused_none : (r : Result (List ℕ) Fault) (f : Fault) → r ≡ Err f → IsOk r → ⊥
 refused_none (Ok t) f is ok = cc
-refused_none (Err g) f is ok = absurd ok
+refused_none (Err g) f is ok = cc
 
 -- a unit that is refused says nothing
 pub none_refused : {P : Type 0} (s : SectionsView) (unit : ℕ) (f : Fault) → unit < unit_count s.info s.order → unit_dump s unit ≡ Err f → RefusesNone s → P

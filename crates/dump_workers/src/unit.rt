@@ -64,7 +64,6 @@ fn read_unit_entries<'a, 'f: 'a, L>(
 }
 
 /// How many entries a unit has. It has fewer of them than `.debug_info` has bytes.
-#[tactic(auto, using(crate::proofs::EntryCounts::few_entries))]
 fn count_entries(sections: &Sections<'_>, header: &UnitHeader, entries: &[Entry<'_>]) -> u32
     requires short { AreShort (sections_view sections.now) }
     requires unit { IsUnitOf (sections_view sections.now) header.now }
@@ -97,6 +96,7 @@ fn text_of(
 ///
 /// # Errors
 /// The first fault of the unit, or want of memory.
+#[tactic(auto, unfolding(crate::specs::UnitDumps::unit_dump, crate::specs::UnitDumps::unit_entries, crate::specs::UnitDumps::entry_count, entry_tree::specs::Units::unit_facts))]
 fn read_text<'f, L>(
     alloc: Global,
     arena: &Bump,

@@ -1,0 +1,101 @@
+-- Seats of a dump, place by place and all together.
+use Rattle.std.specs.Prelude.{◌≡◌, ◌≢◌, ◌⊎◌, refl, ℕ, zero, suc, ◌+◌, ◌-◌, ◌*◌, ◌≤◌, ◌<◌, List, [], ◌∷◌, ◌++◌, All, length, map, slice_index_or}
+use Rattle.std.proofs.Common.{arith, sym, ap, ◌∙◌, subst, inl, inr}
+use Rattle.std.proofs.lemmas.Bool.{cases_lt}
+use Rattle.abbrev_decl.specs.Lookup.{Notes}
+use Rattle.elf_sections.specs.Shapes.{SectionsView}
+use Rattle.map_cells.specs.Seen.{PassView, Follows}
+use Rattle.map_cells.specs.FollowLaws.{follows_same, follows_then, of_follows}
+use Rattle.handle_cache.specs.Handles.{HandleView, Belongs, front_keys, is_spent}
+use Rattle.handle_cache.proofs.Calls.{still_noted}
+use Rattle.unit_headers.specs.Headers.{unit_count}
+use Rattle.dump_workers.specs.FileKeys.{IsFileKey, IsUnitKey, NotesUnit, ReadsUnits}
+use Rattle.dump_workers.specs.Seats.{DumpSeatView, EachBelongs, EachFollows, EachReads, SameSeat, SeatsNoteFile, SomeSeatNotes}
+use Rattle.dump_workers.specs.Windows.{NoteBelow, NoteWindow, SomeSeatNotesUnit}
+use Rattle.dump_workers.proofs.UnitKeys.{reads_same, reads_then}
+
+-- # By their places
+
+pub belongs_at : (h : HandleView) (seats : List DumpSeatView) (i : ℕ) (d : DumpSeatView) → EachBelongs h seats → i < length seats → Belongs h (slice_index_or seats i d).pass
+belongs_at h [] i d all inside = absurd (omega arith)
+belongs_at h (seat ∷ seats) zero d all inside = all.0
+belongs_at h (seat ∷ seats) (suc i) d all inside = belongs_at h seats i d all.1 (omega arith)
+
+pub follows_places : (xs ys : List DumpSeatView) → length ys ≡ length xs
+    → ((i : ℕ) (d : DumpSeatView) → i < length xs → Follows (slice_index_or xs i d).pass (slice_index_or ys i d).pass) → EachFollows xs ys
+follows_places [] [] same each = tt
+follows_places [] (y ∷ ys) same each = absurd (omega (arith, same))
+follows_places (x ∷ xs) [] same each = absurd (omega (arith, same))
+follows_places (x ∷ xs) (y ∷ ys) same each = (each 0 x (omega arith), follows_places xs ys (omega (arith, same)) (λ i d inside. each (suc i) d (omega (arith, inside))))
+
+pub reads_places : (s : SectionsView) (xs ys : List DumpSeatView) → length ys ≡ length xs
+    → ((i : ℕ) (d : DumpSeatView) → i < length xs → ReadsUnits s (slice_index_or xs i d).pass (slice_index_or ys i d).pass (slice_index_or xs i d).steps (slice_index_or ys i d).steps)
+    → EachReads s xs ys
+reads_places s [] [] same each = tt
+reads_places s [] (y ∷ ys) same each = absurd (omega (arith, same))
+reads_places s (x ∷ xs) [] same each = absurd (omega (arith, same))
+reads_places s (x ∷ xs) (y ∷ ys) same each = (each 0 x (omega arith), reads_places s xs ys (omega (arith, same)) (λ i d inside. each (suc i) d (omega (arith, inside))))
+
+pub some_place : (s : SectionsView) (unit : ℕ) (seats : List DumpSeatView) (i : ℕ) (d : DumpSeatView) → i < length seats
+    → NotesUnit s unit (slice_index_or seats i d).pass → SomeSeatNotesUnit s unit seats
+some_place s unit [] i d inside notes = absurd (omega arith)
+some_place s unit (seat ∷ seats) zero d inside notes = inl notes
+some_place s unit (seat ∷ seats) (suc i) d inside notes = inr (some_place s unit seats i d (omega (arith, inside)) notes)
+
+-- # All together
+
+pub each_same : (xs : List DumpSeatView) → EachFollows xs xs
+each_same [] = tt
+each_same (x ∷ xs) = (follows_same x.pass, each_same xs)
+
+pub each_then : (xs ys zs : List DumpSeatView) → EachFollows xs ys → EachFollows ys zs → EachFollows xs zs
+each_then [] [] [] p q = tt
+each_then [] [] (z ∷ zs) p q = absurd q
+each_then [] (y ∷ ys) zs p q = absurd p
+each_then (x ∷ xs) [] zs p q = absurd p
+each_then (x ∷ xs) (y ∷ ys) [] p q = absurd q
+each_then (x ∷ xs) (y ∷ ys) (z ∷ zs) p q = (follows_then x.pass y.pass z.pass p.0 q.0, each_then xs ys zs p.1 q.1)
+
+pub each_length : (xs ys : List DumpSeatView) → EachFollows xs ys → length ys ≡ length xs
+each_length [] [] p = refl
+each_length [] (y ∷ ys) p = absurd p
+each_length (x ∷ xs) [] p = absurd p
+each_length (x ∷ xs) (y ∷ ys) p = let rest = each_length xs ys p.1 in omega (arith, rest)
+
+pub each_belongs : (h : HandleView) (xs ys : List DumpSeatView) → EachBelongs h xs → EachFollows xs ys → EachBelongs h ys
+each_belongs h [] [] all p = tt
+each_belongs h [] (y ∷ ys) all p = absurd p
+each_belongs h (x ∷ xs) [] all p = absurd p
+each_belongs h (x ∷ xs) (y ∷ ys) all p = (
+  record { of_table = of_follows h.table x.pass y.pass all.0.of_table p.0; rest = p.0.rest all.0.rest },
+  each_belongs h xs ys all.1 p.1,
+)
+
+pub each_reads_same : (s : SectionsView) (xs : List DumpSeatView) → EachReads s xs xs
+each_reads_same s [] = tt
+each_reads_same s (x ∷ xs) = (reads_same s x.pass x.steps, each_reads_same s xs)
+
+pub each_reads_then : (s : SectionsView) (xs ys zs : List DumpSeatView) → EachFollows xs ys → EachReads s xs ys → EachReads s ys zs → EachReads s xs zs
+each_reads_then s [] [] [] f p q = tt
+each_reads_then s [] [] (z ∷ zs) f p q = absurd q
+each_reads_then s [] (y ∷ ys) zs f p q = absurd p
+each_reads_then s (x ∷ xs) [] zs f p q = absurd p
+each_reads_then s (x ∷ xs) (y ∷ ys) [] f p q = absurd q
+each_reads_then s (x ∷ xs) (y ∷ ys) (z ∷ zs) f p q =
+    (reads_then s x.pass y.pass z.pass x.steps y.steps z.steps f.0 p.0 q.0, each_reads_then s xs ys zs f.1 p.1 q.1)
+
+-- what was noted stays noted
+pub some_later : (s : SectionsView) (unit : ℕ) (xs ys : List DumpSeatView) → EachFollows xs ys → SomeSeatNotesUnit s unit xs → SomeSeatNotesUnit s unit ys
+some_later s unit [] ys f notes = absurd notes
+some_later s unit (x ∷ xs) [] f notes = absurd f
+some_later s unit (x ∷ xs) (y ∷ ys) f (inl here) = inl (λ k uses. still_noted x.pass y.pass k f.0 (here k uses))
+some_later s unit (x ∷ xs) (y ∷ ys) f (inr there) = inr (some_later s unit xs ys f.1 there)
+
+-- the windows below, and one more
+pub below_more : (s : SectionsView) (start end : ℕ) (xs ys : List DumpSeatView) → EachFollows xs ys → NoteBelow s start xs
+    → ((u : ℕ) → start ≤ u → u < end → u < unit_count s.info s.order → SomeSeatNotesUnit s u ys) → NoteBelow s end ys
+below_more s start end xs ys f below here u low counted = choose (cases_lt u start)
+  where
+    choose : (u < start) ⊎ (start ≤ u) → SomeSeatNotesUnit s u ys
+    choose (inl before) = some_later s u xs ys f (below u before counted)
+    choose (inr after) = here u after low counted

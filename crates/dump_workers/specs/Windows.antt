@@ -78,7 +78,7 @@ with_spare v spare = record v { spare = spare }
 -- the draw seat in a place: the first one, and fresh ones behind it
 pub record IsHandedOut (d : DrawsView) (first : DrawView) (place : ℕ) (v : SeatView) : Type 0 where
   pub of_draws : IsSeatOf d v
-  pub first : place ≡ 0 → v.knows ≡ first
+  pub is_first : place ≡ 0 → v.knows ≡ first
   pub fresh : 0 < place → IsFresh v.knows
 
 abbrev pub IsHandedWork : DrawsView → DrawView → ℕ → Work → Type 0

@@ -4,3 +4,4 @@ pub mod SeatLaws
 pub mod DumpLaws
 pub mod ReadingLaws
 pub mod DrawLaws
+pub mod ServingLaws

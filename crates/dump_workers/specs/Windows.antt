@@ -71,6 +71,11 @@ pub record IsFresh (v : DrawView) : Type 0 where
   pub drawn : v.drawn ≡ []
   pub ended : v.ended ≡ []
 
+abbrev pub IsFreshWork : DrawsView → Work → Type 0
+IsFreshWork d (Drawing v) = IsSeatOf d v × IsFresh v.knows
+IsFreshWork d Idle = ⊥
+IsFreshWork d (Drawn v readings) = ⊥
+
 -- a draw seat with this many spare numbers
 abbrev pub with_spare : DrawView → ℕ → DrawView
 with_spare v spare = record v { spare = spare }
@@ -101,6 +106,20 @@ ComesBackWork d s window first place (Drawing v) = Unit {0}
 abbrev pub EachComesBack : DrawsView → SectionsView → ℕ → DrawView → List DumpSeatView → Type 0
 EachComesBack d s window first seats = (i : ℕ) (seat : DumpSeatView) → i < length seats
     → ComesBackWork d s window first i (slice_index_or seats i seat).work
+
+-- the pass notes what was read of its work
+abbrev pub NotesWork : SectionsView → PassView → Work → Type 0
+NotesWork s p (Drawn v readings) = NotesReadings s p readings.items
+NotesWork s p Idle = Unit {0}
+NotesWork s p (Drawing v) = Unit {0}
+
+abbrev pub EachNotes : SectionsView → List DumpSeatView → Type 0
+EachNotes s seats = (i : ℕ) (seat : DumpSeatView) → i < length seats
+    → NotesWork s (slice_index_or seats i seat).pass (slice_index_or seats i seat).work
+
+-- each unit that was read is noted by some seat
+abbrev pub SomeNotesReadings : SectionsView → List DumpSeatView → List Reading → Type 0
+SomeNotesReadings s seats readings = RefusesNone s → All (λ (r : Reading). SomeSeatNotesUnit s r.unit seats) readings
 
 -- a draw seat that comes back may be joined into the first one
 abbrev pub MayJoinWork : DrawsView → ℕ → Work → Type 0

@@ -5,3 +5,5 @@ pub mod DumpLaws
 pub mod ReadingLaws
 pub mod DrawLaws
 pub mod ServingLaws
+pub mod GatheringLaws
+pub mod WindowLaws

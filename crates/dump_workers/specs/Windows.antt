@@ -151,6 +151,7 @@ pub record IsGathered (d : DrawsView) (s : SectionsView) (window : ℕ) (first :
 pub record StandsBefore (d : DrawsView) (window : ℕ) (v : SeatView) : Type 0 where
   pub of_draws : IsSeatOf d v
   pub number : v.knows.number ≡ 0
+  pub some : 0 < length v.knows.numbers
   pub made : length v.knows.numbers + v.knows.spare ≡ d.sizes.seats
   pub enough : MOST_SEATS ≤ 1 + v.knows.spare + 63 * window
   pub drawn : (u : ℕ) → WINDOW * window ≤ u → occurrences u v.knows.drawn ≡ 0

@@ -10,6 +10,7 @@ use Rattle.dump_workers.proofs.hands.gather.Given as goal
 abbrev pub invariant-seats : goal.invariant-seats
 invariant-seats g l = record {
   from : 1 ≤ l.place;
+  upto : l.place ≤ length l.fn.seats.items;
   length_is : length l.seats.items ≡ length l.fn.seats.items;
   of_draws : IsSeatOf l.draws l.first;
   same : (i : ℕ) (d : DumpSeatView) → i < length l.fn.seats.items → SameSeat (slice_index_or l.fn.seats.items i d) (slice_index_or l.seats.items i d);

@@ -1,5 +1,5 @@
 -- One window: what its seats are given, what comes back of them, and what the window leaves.
-use Rattle.std.specs.Prelude.{◌≡◌, ◌≢◌, ◌⊎◌, refl, ℕ, zero, suc, ◌+◌, ◌-◌, ◌*◌, ◌≤◌, ◌<◌, List, [], ◌∷◌, ◌++◌, All, length, slice_index_or}
+use Rattle.std.specs.Prelude.{◌≡◌, ◌≢◌, ◌⊎◌, refl, ℕ, zero, suc, ◌+◌, ◌-◌, ◌*◌, ◌≤◌, ◌<◌, List, [], ◌∷◌, ◌++◌, All, length, slice_index_or, Result, Ok, Err, IfOk, OnOk}
 use Rattle.std.proofs.Common.{arith, sym, ap, ◌∙◌, subst}
 use Rattle.elf_sections.specs.Shapes.{SectionsView}
 use Rattle.map_cells.specs.Seen.{PassView, Follows}
@@ -163,3 +163,17 @@ module _ (d : DrawsView) (s : SectionsView) (window others : ℕ) (v w : SeatVie
         let here : occurrences u (units_read readings) ≡ 0 = none_behind s window u readings gathered.each far in omega (arith, sum, none, here);
     ended = λ x far. gathered.ended x (λ is. omega (arith, is, far)) ∙ stands.ended x (omega (arith, far));
   }
+
+-- # Answers
+
+pub if_ok : {A E : Type 0} (r : Result A E) (P Q : A → Type 0) → IfOk r P → ((x : A) → P x → Q x) → IfOk r Q
+if_ok (Ok x) P Q p after = after x p
+if_ok (Err e) P Q p after = tt
+
+pub on_ok : {A E : Type 0} (r : Result A E) (P Q : Type 0) → OnOk r P → (P → Q) → OnOk r Q
+on_ok (Ok x) P Q p after = after p
+on_ok (Err e) P Q p after = tt
+
+pub ok_both : {A E : Type 0} (r : Result A E) (P P' : A → Type 0) (Q : Type 0) → IfOk r P → IfOk r P' → ((x : A) → P x → P' x → Q) → OnOk r Q
+ok_both (Ok x) P P' Q p p' after = after x p p'
+ok_both (Err e) P P' Q p p' after = tt

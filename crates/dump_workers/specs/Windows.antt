@@ -71,6 +71,11 @@ pub record IsFresh (v : DrawView) : Type 0 where
   pub drawn : v.drawn ≡ []
   pub ended : v.ended ≡ []
 
+abbrev pub IsFreshWork : DrawsView → Work → Type 0
+IsFreshWork d (Drawing v) = IsSeatOf d v × IsFresh v.knows
+IsFreshWork d Idle = ⊥
+IsFreshWork d (Drawn v readings) = ⊥
+
 -- a draw seat with this many spare numbers
 abbrev pub with_spare : DrawView → ℕ → DrawView
 with_spare v spare = record v { spare = spare }
@@ -78,7 +83,7 @@ with_spare v spare = record v { spare = spare }
 -- the draw seat in a place: the first one, and fresh ones behind it
 pub record IsHandedOut (d : DrawsView) (first : DrawView) (place : ℕ) (v : SeatView) : Type 0 where
   pub of_draws : IsSeatOf d v
-  pub first : place ≡ 0 → v.knows ≡ first
+  pub is_first : place ≡ 0 → v.knows ≡ first
   pub fresh : 0 < place → IsFresh v.knows
 
 abbrev pub IsHandedWork : DrawsView → DrawView → ℕ → Work → Type 0
@@ -101,6 +106,20 @@ ComesBackWork d s window first place (Drawing v) = Unit {0}
 abbrev pub EachComesBack : DrawsView → SectionsView → ℕ → DrawView → List DumpSeatView → Type 0
 EachComesBack d s window first seats = (i : ℕ) (seat : DumpSeatView) → i < length seats
     → ComesBackWork d s window first i (slice_index_or seats i seat).work
+
+-- the pass notes what was read of its work
+abbrev pub NotesWork : SectionsView → PassView → Work → Type 0
+NotesWork s p (Drawn v readings) = NotesReadings s p readings.items
+NotesWork s p Idle = Unit {0}
+NotesWork s p (Drawing v) = Unit {0}
+
+abbrev pub EachNotes : SectionsView → List DumpSeatView → Type 0
+EachNotes s seats = (i : ℕ) (seat : DumpSeatView) → i < length seats
+    → NotesWork s (slice_index_or seats i seat).pass (slice_index_or seats i seat).work
+
+-- each unit that was read is noted by some seat
+abbrev pub SomeNotesReadings : SectionsView → List DumpSeatView → List Reading → Type 0
+SomeNotesReadings s seats readings = RefusesNone s → All (λ (r : Reading). SomeSeatNotesUnit s r.unit seats) readings
 
 -- a draw seat that comes back may be joined into the first one
 abbrev pub MayJoinWork : DrawsView → ℕ → Work → Type 0
@@ -132,6 +151,7 @@ pub record IsGathered (d : DrawsView) (s : SectionsView) (window : ℕ) (first :
 pub record StandsBefore (d : DrawsView) (window : ℕ) (v : SeatView) : Type 0 where
   pub of_draws : IsSeatOf d v
   pub number : v.knows.number ≡ 0
+  pub some : 0 < length v.knows.numbers
   pub made : length v.knows.numbers + v.knows.spare ≡ d.sizes.seats
   pub enough : MOST_SEATS ≤ 1 + v.knows.spare + 63 * window
   pub drawn : (u : ℕ) → WINDOW * window ≤ u → occurrences u v.knows.drawn ≡ 0

@@ -4,4 +4,8 @@ pub mod SeatLaws
 pub mod DumpLaws
 pub mod ReadingLaws
 pub mod DrawLaws
+pub mod ServingLaws
+pub mod GatheringLaws
+pub mod WindowLaws
 pub mod PrintLemmas
+pub mod WindowSums

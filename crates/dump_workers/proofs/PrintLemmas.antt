@@ -1,13 +1,15 @@
 -- Readings that are looked through for one unit, and the entries of units that were printed.
-use Rattle.std.specs.Prelude.{◌≡◌, refl, ℕ, suc, ◌+◌, ◌*◌, ◌≤◌, ◌<◌, List, [], ◌∷◌, length, drop, get_or}
+use Rattle.std.specs.Prelude.{◌≡◌, refl, ℕ, suc, ◌+◌, ◌*◌, ◌≤◌, ◌<◌, List, [], ◌∷◌, length, drop, get_or, Result, Err}
 use Rattle.std.proofs.Common.{arith, sym, ap, ◌∙◌, subst, add-one, drop-cons}
 use Rattle.std.proofs.lemmas.List.{drop_all}
+use Rattle.dw_outside.specs.Faults.{HasCause, Rose-earlier}
 use Rattle.elf_sections.specs.Shapes.{SectionsView}
 use Rattle.unit_draws.specs.Seats.{occurrences}
 use Rattle.unit_draws.specs.declared.windows.TheConstants.{WINDOW}
 use Rattle.unit_draws.proofs.Occurrences.{occurrences-append, occurrences-nil, occurrences_other}
 use Rattle.dump_workers.specs.declared.reading.Reading.{Reading}
 use Rattle.unit_headers.specs.Headers.{unit_count}
+use Rattle.dump_workers.specs.declared.ends.DumpFault.{DumpFault}
 use Rattle.dump_workers.specs.Readings.{units_read}
 use Rattle.dump_workers.specs.UnitDumps.{entries_from, entry_count}
 use Rattle.dump_workers.specs.Windows.{ReadsWindow}
@@ -57,3 +59,16 @@ pub was_read : {P : Type 0} (s : SectionsView) (window unit start end : ℕ) (rs
 was_read s window unit start end rs from low inside below counted reads none =
     let once = reads.once unit (omega arith) (omega arith) (omega arith) in
     absurd (omega (arith, once, none))
+
+-- # Causes
+
+same_fault : {A B : Type 0} (e f : DumpFault) → ◌≡◌ {A = Result A DumpFault} (Err e) (Err f) → ◌≡◌ {A = Result B DumpFault} (Err e) (Err f)
+same_fault e f is = let same : e ≡ f = cc in ap (λ (x : DumpFault). Err x) same
+
+-- a fault that a part met is met by the whole
+pub cause_of : {A B : Type 0} (e failed : DumpFault) (before mid now : ℕ) → before ≤ mid → HasCause {T = A} {E = DumpFault} failed mid now (Err e)
+    → HasCause {T = B} {E = DumpFault} failed before now (Err e)
+cause_of e failed before mid now earlier cause = record {
+  later = omega (arith, cause.later);
+  rose = λ is. Rose-earlier before mid now earlier (cause.rose (same_fault e failed is));
+}

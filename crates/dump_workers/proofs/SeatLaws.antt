@@ -2,6 +2,10 @@
 use Rattle.std.specs.Prelude.{◌≡◌, ◌≢◌, ◌⊎◌, refl, ℕ, zero, suc, ◌+◌, ◌-◌, ◌*◌, ◌≤◌, ◌<◌, List, [], ◌∷◌, ◌++◌, All, length, map, slice_index_or}
 use Rattle.std.proofs.Common.{arith, sym, ap, ◌∙◌, subst, inl, inr}
 use Rattle.std.proofs.lemmas.Bool.{cases_lt}
+use Rattle.std.proofs.lemmas.List.{get_or_default, get_or-set_same, get_or-set_other, length-set}
+use lib.ListN.{set}
+use mathlib.Core.Logic.{dite}
+use native.Mathlib.Decide.{ℕ_discrete}
 use Rattle.abbrev_decl.specs.Lookup.{Notes}
 use Rattle.elf_sections.specs.Shapes.{SectionsView}
 use Rattle.map_cells.specs.Seen.{PassView, Follows}
@@ -99,3 +103,36 @@ below_more s start end xs ys f below here u low counted = choose (cases_lt u sta
     choose : (u < start) ⊎ (start ≤ u) → SomeSeatNotesUnit s u ys
     choose (inl before) = some_later s u xs ys f (below u before counted)
     choose (inr after) = here u after low counted
+
+-- # One seat is changed
+
+-- the pass and the counter of a seat that was given other work
+pub set_same : (old xs : List DumpSeatView) (j : ℕ) (x y : DumpSeatView) → length xs ≡ length old → j < length xs → x ≡ slice_index_or xs j x → y.pass ≡ x.pass → y.steps ≡ x.steps
+    → ((i : ℕ) (d : DumpSeatView) → i < length old → SameSeat (slice_index_or old i d) (slice_index_or xs i d))
+    → (i : ℕ) (d : DumpSeatView) → i < length old → SameSeat (slice_index_or old i d) (slice_index_or (set xs j y) i d)
+set_same old xs j x y sizes inside at pass steps before i d low =
+    dite (ℕ_discrete i j)
+    (λ is.
+    let here : slice_index_or xs i d ≡ x = ap (λ (n : ℕ). slice_index_or xs n d) is ∙ get_or_default xs j d x inside ∙ sym at in
+    let now : slice_index_or (set xs j y) i d ≡ y = ap (λ (n : ℕ). slice_index_or (set xs j y) n d) is ∙ get_or-set_same xs j y d inside in
+    rw now (record {
+      pass = pass ∙ sym (ap (λ (v : DumpSeatView). v.pass) here) ∙ (before i d low).pass;
+      steps = steps ∙ sym (ap (λ (v : DumpSeatView). v.steps) here) ∙ (before i d low).steps;
+    }))
+    (λ isnt. rw (get_or-set_other xs j i y d isnt) (before i d low))
+
+pub same_seats : (xs : List DumpSeatView) (i : ℕ) (d : DumpSeatView) → i < length xs → SameSeat (slice_index_or xs i d) (slice_index_or xs i d)
+same_seats xs i d low = record { pass = refl; steps = refl }
+
+-- seats behind it are as they were
+pub set_left : (old xs : List DumpSeatView) (j : ℕ) (y : DumpSeatView)
+    → ((i : ℕ) (d : DumpSeatView) → j ≤ i → i < length old → (slice_index_or xs i d).work ≡ (slice_index_or old i d).work)
+    → (i : ℕ) (d : DumpSeatView) → j + 1 ≤ i → i < length old → (slice_index_or (set xs j y) i d).work ≡ (slice_index_or old i d).work
+set_left old xs j y before i d far low =
+    ap (λ (v : DumpSeatView). v.work) (get_or-set_other xs j i y d (λ is. omega arith)) ∙ before i d (omega arith) low
+
+-- one place more
+pub place_more : (P : ℕ → DumpSeatView → Type 0) (n j : ℕ) → ((i : ℕ) (d : DumpSeatView) → i < j → i < n → P i d) → ((d : DumpSeatView) → P j d)
+    → (i : ℕ) (d : DumpSeatView) → i < j + 1 → i < n → P i d
+place_more P n j before here i d low inside =
+    dite (ℕ_discrete i j) (λ is. subst (λ (k : ℕ). P k d) (sym is) (here d)) (λ isnt. before i d (omega (arith, isnt)) inside)

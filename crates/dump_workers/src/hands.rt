@@ -5,7 +5,7 @@ ghost use Rattle.elf_sections.specs.Shapes.{SectionsView};
 ghost use Rattle.unit_draws.specs.declared.view.DrawView.{DrawView};
 ghost use Rattle.unit_draws.specs.Seats.{IsSeatOf};
 ghost use Rattle.dump_workers.specs.Seats.{DumpSeatView, SameSeat};
-ghost use Rattle.dump_workers.specs.Windows.{EachComesBack, IsDrawnWork, IsGathered, IsHandedWork, MayJoinWork, with_spare};
+ghost use Rattle.dump_workers.specs.Windows.{EachComesBack, EachNotes, IsDrawnWork, IsGathered, IsHandedWork, MayJoinWork, SomeNotesReadings, with_spare};
 
 use crate::reading::Reading;
 use crate::seat::{DumpSeat, Work};
@@ -54,6 +54,8 @@ pub(crate) fn gather<'f, L>(
     ensures gathered { IfOk result (λ r. (s : SectionsView) (window : ℕ) (first : DrawView)
         → EachComesBack draws.now s window first seats.old.items
         → IsGathered draws.now s window first (length seats.old.items - 1) r.0 r.1.items) }
+    ensures notes { IfOk result (λ r. (s : SectionsView) → EachNotes s seats.old.items
+        → SomeNotesReadings s seats.old.items r.1.items) }
 {
     let (mut first, mut readings) = seats[0].take_drawn()?;
     'seats: for place in 1..seats.len() {

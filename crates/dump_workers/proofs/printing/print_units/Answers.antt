@@ -1,9 +1,8 @@
 use Rattle.std.proofs.Common.{refl, arith, rules, Ok, Err, Some, None, ◌+◌, ◌-◌, ◌∙◌}
-use Rattle.dw_outside.specs.Faults.{Rose-earlier}
 use Rattle.handle_cache.specs.Handles.{sections_in}
-use Rattle.dump_workers.specs.declared.ends.DumpFault.{DumpFault}
+use Rattle.dump_workers.specs.declared.ends.DumpFault.TheVariants as dump_faults
 use Rattle.dump_workers.proofs.DumpLaws.{printed_next, printed_cut, printed_refused, printed_done}
-use Rattle.dump_workers.proofs.PrintLemmas.{entries_all, entries_more, was_read}
+use Rattle.dump_workers.proofs.PrintLemmas.{cause_of, entries_all, entries_more}
 use Rattle.dump_workers.proofs.printing.print_units.Goals as goal
 
 pub units-init : goal.units-init
@@ -41,10 +40,7 @@ returns-in-Err-clause-printed g c =
     read.0 c.as_slice.ensures.value c.in-Err.ensures.part)
 
 pub returns-in-Err-clause-cause : goal.returns-in-Err-clause-cause
-returns-in-Err-clause-cause g c = record {
-  later = omega (arith, c.units.invariant.later, c.in-Err.ensures.cause.later);
-  rose = λ is. Rose-earlier _ _ _ c.units.invariant.later (c.in-Err.ensures.cause.rose is);
-}
+returns-in-Err-clause-cause g c = cause_of c.in-Err.fault dump_faults.WriteFault _ _ _ c.units.invariant.later c.in-Err.ensures.cause
 
 pub returns-in-Refused-clause-printed : goal.returns-in-Refused-clause-printed
 returns-in-Refused-clause-printed g c =

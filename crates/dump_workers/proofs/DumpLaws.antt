@@ -59,10 +59,15 @@ behind_unit unit (Err f) here others = refl
 
 dump_joined : (s : SectionsView) (unit m n : ℕ) → dump_from s unit (m + n) ≡ behind (dump_from s unit m).refused (dump_from s unit m).text (dump_from s (unit + m) n)
 unfolding dump_from
-dump_joined s unit zero n = let same : unit + 0 ≡ unit = omega arith in rw same refl
+dump_joined s unit zero n =
+    let same : unit + 0 ≡ unit = omega arith in
+    let all : 0 + n ≡ n = omega arith in
+    rw (same, all) refl
 dump_joined s unit (suc m) n =
     let later : unit + suc m ≡ unit + 1 + m = omega arith in
-    ap (unit_dumped unit (unit_dump s unit)) (dump_joined s (unit + 1) m n)
+    let fuel : suc m + n ≡ suc (m + n) = omega arith in
+    ap (dump_from s unit) fuel
+    ∙ ap (unit_dumped unit (unit_dump s unit)) (dump_joined s (unit + 1) m n)
     ∙ behind_unit unit (unit_dump s unit) (dump_from s (unit + 1) m) (dump_from s (unit + 1 + m) n)
     ∙ ap (λ (k : ℕ). behind (dump_from s unit (suc m)).refused (dump_from s unit (suc m)).text (dump_from s k n)) (sym later)
 
@@ -120,10 +125,16 @@ sum_of : (a b c : ℕ) → a + (b + c) ≡ a + b + c
 sum_of a b c = omega arith
 
 entries_joined : (s : SectionsView) (unit m n : ℕ) → entries_from s unit (m + n) ≡ entries_from s unit m + entries_from s (unit + m) n
-entries_joined s unit zero n = let same : unit + 0 ≡ unit = omega arith in rw same refl
+entries_joined s unit zero n =
+    let same : unit + 0 ≡ unit = omega arith in
+    let all : 0 + n ≡ n = omega arith in
+    let none : 0 + entries_from s unit n ≡ entries_from s unit n = omega arith in
+    rw (same, all, none) refl
 entries_joined s unit (suc m) n =
     let later : unit + suc m ≡ unit + 1 + m = omega arith in
-    ap (λ (k : ℕ). entry_count s unit + k) (entries_joined s (unit + 1) m n)
+    let fuel : suc m + n ≡ suc (m + n) = omega arith in
+    ap (entries_from s unit) fuel
+    ∙ ap (λ (k : ℕ). entry_count s unit + k) (entries_joined s (unit + 1) m n)
     ∙ sum_of (entry_count s unit) (entries_from s (unit + 1) m) (entries_from s (unit + 1 + m) n)
     ∙ ap (λ (k : ℕ). entries_from s unit (suc m) + entries_from s k n) (sym later)
 

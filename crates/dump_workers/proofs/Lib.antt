@@ -7,3 +7,5 @@ pub mod DrawLaws
 pub mod ServingLaws
 pub mod GatheringLaws
 pub mod WindowLaws
+pub mod PrintLemmas
+pub mod WindowSums

@@ -1,6 +1,6 @@
 //! The texts of a window's units, in the units' order, into a sink.
 
-ghost use Rattle.std.specs.Prelude.{◌≡◌, ◌<◌, ◌≤◌, ◌+◌, ◌*◌, ◌-◌, ◌^◌, ℕ, Ok, None, IfSome, IfNone, OnNone, OnOk, All, length};
+ghost use Rattle.std.specs.Prelude.{◌≡◌, ◌<◌, ◌≤◌, ◌+◌, ◌*◌, ◌-◌, ◌^◌, ℕ, Ok, None, IfSome, IfNone, OnErr, OnOk, All, length};
 ghost use Rattle.dw_outside.specs.Faults.{HasCause};
 ghost use Rattle.dw_outside.specs.Gains.{Gains, GainsPart};
 ghost use Rattle.elf_sections.specs.Shapes.{SectionsView};
@@ -11,7 +11,7 @@ ghost use Rattle.unit_headers.specs.Headers.{unit_count};
 ghost use Rattle.handle_cache.specs.Handles.{sections_in};
 ghost use Rattle.dump_workers.specs.declared.ends.DumpFault.TheVariants as dump_faults;
 ghost use Rattle.dump_workers.specs.Dumps.{Prints, dump_from};
-ghost use Rattle.dump_workers.specs.Readings.{IsReading, units_read};
+ghost use Rattle.dump_workers.specs.Readings.{IsRead, IsReading, units_read};
 ghost use Rattle.dump_workers.specs.UnitDumps.{entries_from};
 ghost use Rattle.dump_workers.specs.Windows.{ReadsWindow};
 

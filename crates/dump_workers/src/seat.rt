@@ -48,7 +48,7 @@ impl<'f, L> Model for DumpSeat<'f, L> {
 impl<'f, L> DumpSeat<'f, L> {
     /// A seat with this pass and this counter.
     pub fn new(_alloc: Global, pass: HandlePass<'f>, steps: Steps<L>) -> DumpSeat<'f, L>
-        ensures pass { result.pass ≡ pass }
+        ensures pass { result.pass ≡ pass.entry }
         ensures steps { result.steps ≡ steps }
     {
         DumpSeat {
@@ -60,8 +60,8 @@ impl<'f, L> DumpSeat<'f, L> {
 
     /// Gives the pass and the counter back.
     pub fn into_parts(self) -> (HandlePass<'f>, Steps<L>)
-        ensures pass { result.0 ≡ self.pass }
-        ensures steps { result.1 ≡ self.steps }
+        ensures pass { result.0 ≡ self.entry.pass }
+        ensures steps { result.1 ≡ self.entry.steps }
     {
         (self.pass, self.steps)
     }

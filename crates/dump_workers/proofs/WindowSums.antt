@@ -66,6 +66,37 @@ windows_unread s units window old mid stop count so_far =
     printed_then s 0 here here (units - here) (unit_count s.info s.order) old mid mid (Err stop) (omega arith) (all ∙ count) so_far
     (printed_nothing (dump_from s here (units - here)) mid stop)
 
+-- # One window more
+
+next_below : (units window start end : ℕ) → WINDOW * window ≡ start → end ≡ min units (start + WINDOW) → end ≡ units_below units (window + 1)
+next_below units window start end from is = omega arith
+
+pub windows_next : (s : SectionsView) (units window start end : ℕ) (old mid new : Option (List ℕ))
+    → WINDOW * window ≡ start → start ≤ units → end ≡ min units (start + WINDOW)
+    → Prints (Ok None) (dump_from s 0 (units_below units window)) old mid → Prints (Ok None) (dump_from s start (end - start)) mid new
+    → Prints (Ok None) (dump_from s 0 (units_below units (window + 1))) old new
+windows_next s units window start end old mid new from order is so_far printed =
+    subst (λ (n : ℕ). Prints (Ok None) (dump_from s 0 n) old new) (next_below units window start end from is)
+    (windows_then s units window start end old mid new (Ok None) from (omega (arith, is, order)) (omega (arith, is, order)) so_far printed)
+
+entries_window : (s : SectionsView) (units window start end entries more : ℕ) → WINDOW * window ≡ start → start ≤ end → end ≤ units
+    → entries ≡ entries_from s 0 (units_below units window) → more ≡ entries + entries_from s start (end - start) → more ≡ entries_from s 0 end
+entries_window s units window start end entries more from order inside so_far here =
+    let below : units_below units window ≡ start = omega arith in
+    let a : ℕ = entries_from s 0 start in
+    let b : ℕ = entries_from s start (end - start) in
+    let c : ℕ = entries_from s 0 end in
+    let so_far' : entries ≡ a = so_far ∙ ap (entries_from s 0) below in
+    let here' : more ≡ entries + b = here in
+    let sum : c ≡ a + b = entries_then s 0 start start (end - start) end (omega arith) (omega arith) in
+    let goal : more ≡ c = omega arith in goal
+
+pub entries_next_window : (s : SectionsView) (units window start end entries more : ℕ) → WINDOW * window ≡ start → start ≤ units → end ≡ min units (start + WINDOW)
+    → entries ≡ entries_from s 0 (units_below units window) → more ≡ entries + entries_from s start (end - start) → more ≡ entries_from s 0 (units_below units (window + 1))
+entries_next_window s units window start end entries more from order is so_far here =
+    entries_window s units window start end entries more from (omega (arith, is, order)) (omega (arith, is, order)) so_far here
+    ∙ ap (entries_from s 0) (next_below units window start end from is)
+
 all_below : (units windows : ℕ) → window_count units ≤ windows → units_below units windows ≡ units
 all_below units windows all = omega arith
 
@@ -85,18 +116,6 @@ windows_begin s units old = printed_done s 0 (units_below units 0) old (omega ar
 pub entries_begin : (s : SectionsView) (units : ℕ) → 0 ≡ entries_from s 0 (units_below units 0)
 entries_begin s units = let none : units_below units 0 ≡ 0 = omega arith in rw none refl
 
-pub entries_window : (s : SectionsView) (units window start end entries more : ℕ) → WINDOW * window ≡ start → start ≤ end → end ≤ units
-    → entries ≡ entries_from s 0 (units_below units window) → more ≡ entries + entries_from s start (end - start) → more ≡ entries_from s 0 end
-entries_window s units window start end entries more from order inside so_far here =
-    let below : units_below units window ≡ start = omega arith in
-    let a : ℕ = entries_from s 0 start in
-    let b : ℕ = entries_from s start (end - start) in
-    let c : ℕ = entries_from s 0 end in
-    let so_far' : entries ≡ a = so_far ∙ ap (entries_from s 0) below in
-    let here' : more ≡ entries + b = here in
-    let sum : c ≡ a + b = entries_then s 0 start start (end - start) end (omega arith) (omega arith) in
-    let goal : more ≡ c = omega arith in goal
-
 pub entries_whole : (s : SectionsView) (units windows entries : ℕ) → units ≡ unit_count s.info s.order → window_count units ≤ windows
     → entries ≡ entries_from s 0 (units_below units windows) → entries ≡ file_entries s
 unfolding file_entries
@@ -112,10 +131,14 @@ some_key s unit k (seat ∷ seats) uses (inr there) = inr (some_key s unit k sea
 pub notes_begin : (s : SectionsView) (units : ℕ) (seats : List DumpSeatView) → NoteBelow s (units_below units 0) seats
 notes_begin s units seats u low counted = absurd (omega (arith, low))
 
-pub notes_window : (s : SectionsView) (units window end : ℕ) (xs ys : List DumpSeatView) → end ≤ WINDOW * (window + 1) → EachFollows xs ys
+notes_window : (s : SectionsView) (units window end : ℕ) (xs ys : List DumpSeatView) → end ≤ WINDOW * (window + 1) → EachFollows xs ys
     → NoteBelow s (units_below units window) xs → units ≡ unit_count s.info s.order → NoteWindow s window ys → NoteBelow s end ys
 notes_window s units window end xs ys below f so_far count here =
     below_more s (units_below units window) end xs ys f so_far (λ u low behind counted. here u (omega (arith, low, count, counted)) (omega (arith, behind)) counted)
+
+pub notes_next : (s : SectionsView) (units window : ℕ) (xs ys : List DumpSeatView) → EachFollows xs ys
+    → NoteBelow s (units_below units window) xs → units ≡ unit_count s.info s.order → NoteWindow s window ys → NoteBelow s (units_below units (window + 1)) ys
+notes_next s units window xs ys f so_far count here = notes_window s units window (units_below units (window + 1)) xs ys (omega arith) f so_far count here
 
 pub notes_whole : (s : SectionsView) (units windows : ℕ) (seats : List DumpSeatView) → units ≡ unit_count s.info s.order → window_count units ≤ windows
     → NoteBelow s (units_below units windows) seats → SeatsNoteFile s seats

@@ -16,7 +16,7 @@ use Rattle.dump_workers.specs.FileKeys.{IsFileKey, IsUnitKey, NotesUnit, Refuses
 use Rattle.dump_workers.specs.Seats.{DumpSeatView, EachFollows, SeatsNoteFile, SomeSeatNotes}
 use Rattle.dump_workers.specs.UnitDumps.{entries_from, file_entries, unit_dump}
 use Rattle.dump_workers.specs.Windows.{NoteBelow, NoteWindow, SomeSeatNotesUnit}
-use Rattle.dump_workers.proofs.DumpLaws.{entries_then, printed_done, printed_ends, printed_nothing, printed_stops, printed_then}
+use Rattle.dump_workers.proofs.DumpLaws.{entries_done, entries_then, printed_done, printed_ends, printed_nothing, printed_stops, printed_then}
 use Rattle.dump_workers.proofs.SeatLaws.{below_more}
 use Rattle.dump_workers.proofs.UnitKeys.{none_refused}
 
@@ -114,7 +114,7 @@ windows_begin s units old = printed_done s 0 (units_below units 0) old (omega ar
 -- # Their entries
 
 pub entries_begin : (s : SectionsView) (units : ℕ) → 0 ≡ entries_from s 0 (units_below units 0)
-entries_begin s units = let none : units_below units 0 ≡ 0 = omega arith in rw none refl
+entries_begin s units = sym (entries_done s 0 (units_below units 0) (omega arith))
 
 pub entries_whole : (s : SectionsView) (units windows entries : ℕ) → units ≡ unit_count s.info s.order → window_count units ≤ windows
     → entries ≡ entries_from s 0 (units_below units windows) → entries ≡ file_entries s
@@ -159,11 +159,13 @@ refused_in s unit zero r is = absurd (isnt is)
   where
     isnt : ◌≡◌ {A = Option RefusedUnit} None (Some r) → ⊥
     isnt e = cc
-refused_in s unit (suc n) r is = here (unit_dump s unit) refl is
+refused_in s unit (suc n) r is = here (unit_dump s unit) refl (refused_in s (unit + 1) n r) is
   where
-    here : (text : Text) → unit_dump s unit ≡ text → (unit_dumped unit text (dump_from s (unit + 1) n)).refused ≡ Some r → IsRefused s unit (suc n) r
-    here (Ok t) text there = let later = refused_in s (unit + 1) n r there in record { below = omega (arith, later.below); refuses = later.refuses }
-    here (Err f) text there =
+    here : (text : Text) → unit_dump s unit ≡ text → ((dump_from s (unit + 1) n).refused ≡ Some r → IsRefused s (unit + 1) n r)
+        → (unit_dumped unit text (dump_from s (unit + 1) n)).refused ≡ Some r → IsRefused s unit (suc n) r
+    here (Ok t) text behind there = let later = behind there in record { below = omega (arith, later.below); refuses = later.refuses }
+    here (Err f) text behind there =
+        let these : ◌≡◌ {A = Option RefusedUnit} (Some (record { unit = unit; fault = f })) (Some r) = there in
         let same : ◌≡◌ {A = RefusedUnit} (record { unit = unit; fault = f }) r = cc in
         subst (IsRefused s unit (suc n)) same (record { below = omega arith; refuses = text })
 

@@ -1,5 +1,5 @@
 -- What the windows of a file, one after another, come to.
-use Rattle.std.specs.Prelude.{◌≡◌, ◌⊎◌, refl, ℕ, zero, suc, ◌+◌, ◌-◌, ◌*◌, ◌/◌, ◌≤◌, ◌<◌, min, List, [], ◌∷◌, length, Option, Some, None, Result, Ok, Err}
+use Rattle.std.specs.Prelude.{◌≡◌, ◌⊎◌, refl, ℕ, zero, suc, ◌+◌, ◌-◌, ◌*◌, ◌/◌, ◌^◌, ◌≤◌, ◌<◌, min, List, [], ◌∷◌, length, Option, Some, None, Result, Ok, Err}
 use Rattle.std.proofs.Common.{arith, sym, ap, ◌∙◌, subst, inl, inr}
 use Rattle.dw_fields.specs.declared.fault_code.Fault.{Fault}
 use Rattle.dw_outside.specs.Gains.{Gains}
@@ -34,27 +34,31 @@ windows_then s units window start end old mid new r from order inside so_far pri
     let here : units_below units window ≡ start = omega arith in
     printed_then s 0 start start (end - start) end old mid new r (omega arith) (omega arith) (subst (λ (n : ℕ). Prints (Ok None) (dump_from s 0 n) old mid) here so_far) printed
 
+-- a window begins within the units
+pub starts_inside : (units windows window : ℕ) → windows ≡ window_count units → window < windows → WINDOW * window ≤ units
+starts_inside units windows window are low = omega arith
+
 -- a unit of this window is refused
 pub windows_end : (s : SectionsView) (units window start end : ℕ) (old mid new : Option (List ℕ)) (refused : RefusedUnit)
-    → WINDOW * window ≡ start → start ≤ end → end ≤ units → units ≡ unit_count s.info s.order
+    → WINDOW * window ≡ start → start ≤ units → end ≡ min units (start + WINDOW) → units ≡ unit_count s.info s.order
     → Prints (Ok None) (dump_from s 0 (units_below units window)) old mid → Prints (Ok (Some refused)) (dump_from s start (end - start)) mid new
     → Prints (Ok (Some refused)) (dump_of s) old new
 unfolding dump_of
-windows_end s units window start end old mid new refused from order inside count so_far printed =
-    let all : end + (units - end) ≡ units = omega arith in
+windows_end s units window start end old mid new refused from order is count so_far printed =
+    let all : end + (units - end) ≡ units = omega (arith, is, order) in
     printed_ends s 0 end (units - end) (unit_count s.info s.order) old new refused (all ∙ count)
-    (windows_then s units window start end old mid new (Ok (Some refused)) from order inside so_far printed)
+    (windows_then s units window start end old mid new (Ok (Some refused)) from (omega (arith, is, order)) (omega (arith, is, order)) so_far printed)
 
 -- the sink stopped within this window
 pub windows_stop : (s : SectionsView) (units window start end : ℕ) (old mid new : Option (List ℕ)) (stop : DumpFault)
-    → WINDOW * window ≡ start → start ≤ end → end ≤ units → units ≡ unit_count s.info s.order
+    → WINDOW * window ≡ start → start ≤ units → end ≡ min units (start + WINDOW) → units ≡ unit_count s.info s.order
     → Prints (Ok None) (dump_from s 0 (units_below units window)) old mid → Prints (Err stop) (dump_from s start (end - start)) mid new
     → Prints (Err stop) (dump_of s) old new
 unfolding dump_of
-windows_stop s units window start end old mid new stop from order inside count so_far printed =
-    let all : end + (units - end) ≡ units = omega arith in
+windows_stop s units window start end old mid new stop from order is count so_far printed =
+    let all : end + (units - end) ≡ units = omega (arith, is, order) in
     printed_stops s 0 end (units - end) (unit_count s.info s.order) old new stop (all ∙ count)
-    (windows_then s units window start end old mid new (Err stop) from order inside so_far printed)
+    (windows_then s units window start end old mid new (Err stop) from (omega (arith, is, order)) (omega (arith, is, order)) so_far printed)
 
 -- there was no memory for this window
 pub windows_unread : (s : SectionsView) (units window : ℕ) (old mid : Option (List ℕ)) (stop : DumpFault)
@@ -169,9 +173,20 @@ refused_in s unit (suc n) r is = here (unit_dump s unit) refl (refused_in s (uni
         let same : ◌≡◌ {A = RefusedUnit} (record { unit = unit; fault = f }) r = cc in
         subst (IsRefused s unit (suc n)) same (record { below = omega arith; refuses = text })
 
--- where a unit is refused, the seats needn't note anything
-pub refuses_some : {P : Type 0} (s : SectionsView) (start n : ℕ) (r : RefusedUnit) (old new : Option (List ℕ)) → start + n ≤ unit_count s.info s.order
-    → Prints (Ok (Some r)) (dump_from s start n) old new → RefusesNone s → P
-refuses_some s start n r old new inside printed none =
-    let it = refused_in s start n r (sym printed.0) in
-    none_refused s r.unit r.fault (omega (arith, inside, it.below)) it.refuses none
+-- where a unit of a window is refused, the seats needn't note anything
+pub refuses_some : {P : Type 0} (s : SectionsView) (units start end : ℕ) (r : RefusedUnit) (old new : Option (List ℕ))
+    → start ≤ units → end ≡ min units (start + WINDOW) → units ≡ unit_count s.info s.order
+    → Prints (Ok (Some r)) (dump_from s start (end - start)) old new → RefusesNone s → P
+refuses_some s units start end r old new order is count printed none =
+    let it = refused_in s start (end - start) r (sym printed.0) in
+    none_refused s r.unit r.fault (omega (arith, order, is, count, it.below)) it.refuses none
+
+-- # Answers of a window's print
+
+pub ok_none : (r : Result (Option RefusedUnit) DumpFault) (x : Option RefusedUnit) → ◌≡◌ {A = Result (Option RefusedUnit) DumpFault} r (Ok x) → x ≡ None
+    → ◌≡◌ {A = Result (Option RefusedUnit) DumpFault} r (Ok None)
+ok_none r x is none = is ∙ ap (λ (y : Option RefusedUnit). Ok y) none
+
+pub room_next : (units window start end entries : ℕ) → WINDOW * window ≡ start → end ≡ min units (start + WINDOW) → entries ≤ end * 2 ^ 32
+    → entries ≤ units_below units (window + 1) * 2 ^ 32
+room_next units window start end entries from is room = subst (λ (n : ℕ). entries ≤ n * 2 ^ 32) (next_below units window start end from is) room

@@ -2,11 +2,15 @@
 use Rattle.std.specs.Prelude.{◌≡◌, ◌⊎◌, refl, ℕ, zero, suc, ◌+◌, ◌-◌, ◌*◌, ◌/◌, ◌^◌, ◌≤◌, ◌<◌, min, List, [], ◌∷◌, length, Option, Some, None, Result, Ok, Err}
 use Rattle.std.proofs.Common.{arith, sym, ap, ◌∙◌, subst, inl, inr}
 use Rattle.dw_fields.specs.declared.fault_code.Fault.{Fault}
-use Rattle.dw_outside.specs.Gains.{Gains}
-use Rattle.dw_outside.specs.GainsLaws.{Gains-nothing}
+use Rattle.dw_outside.specs.Gains.{GainsPart}
+use Rattle.dw_outside.specs.GainsLaws.{Gains-nothing, GainsPart-nothing}
 use Rattle.elf_sections.specs.Shapes.{SectionsView}
 use Rattle.unit_draws.specs.declared.windows.TheConstants.{WINDOW}
+use Rattle.unit_draws.specs.declared.view.DrawView.{DrawView}
+use Rattle.unit_draws.specs.declared.view.TheConstants.{MOST_SEATS}
+use Rattle.unit_draws.specs.Seats.{DrawsView, SeatView, IsSeatOf, first_seat, occurrences}
 use Rattle.unit_draws.specs.Windows.{window_count}
+use Rattle.unit_draws.proofs.Occurrences.{occurrences-nil}
 use Rattle.unit_headers.specs.Headers.{unit_count}
 use Rattle.unit_text.specs.Pieces.{Text}
 use Rattle.dump_workers.specs.declared.ends.DumpFault.{DumpFault}
@@ -15,7 +19,7 @@ use Rattle.dump_workers.specs.Dumps.{DumpText, Prints, dump_from, dump_of, unit_
 use Rattle.dump_workers.specs.FileKeys.{IsFileKey, IsUnitKey, NotesUnit, RefusesNone}
 use Rattle.dump_workers.specs.Seats.{DumpSeatView, EachFollows, SeatsNoteFile, SomeSeatNotes}
 use Rattle.dump_workers.specs.UnitDumps.{entries_from, file_entries, unit_dump}
-use Rattle.dump_workers.specs.Windows.{NoteBelow, NoteWindow, SomeSeatNotesUnit}
+use Rattle.dump_workers.specs.Windows.{NoteBelow, NoteWindow, SomeSeatNotesUnit, StandsBefore}
 use Rattle.dump_workers.proofs.DumpLaws.{entries_done, entries_then, printed_done, printed_ends, printed_nothing, printed_stops, printed_then}
 use Rattle.dump_workers.proofs.SeatLaws.{below_more}
 use Rattle.dump_workers.proofs.UnitKeys.{none_refused}
@@ -190,3 +194,22 @@ ok_none r x is none = is ∙ ap (λ (y : Option RefusedUnit). Ok y) none
 pub room_next : (units window start end entries : ℕ) → WINDOW * window ≡ start → end ≡ min units (start + WINDOW) → entries ≤ end * 2 ^ 32
     → entries ≤ units_below units (window + 1) * 2 ^ 32
 room_next units window start end entries from is room = subst (λ (n : ℕ). entries ≤ n * 2 ^ 32) (next_below units window start end from is) room
+
+-- # Before the first window
+
+pub stands_first : (d : DrawsView) (v : SeatView) → IsSeatOf d v → v.knows ≡ first_seat d.sizes → d.sizes.seats ≡ MOST_SEATS → StandsBefore d 0 v
+stands_first d v of_draws is most =
+    let size : length v.knows.numbers ≡ 1 = ap (λ (x : DrawView). length x.numbers) is in
+    let spare : v.knows.spare ≡ d.sizes.seats - 1 = ap (λ (x : DrawView). x.spare) is in
+    record {
+      of_draws = of_draws;
+      number = ap (λ (x : DrawView). x.number) is;
+      some = omega (arith, size);
+      made = omega (arith, size, spare, most);
+      enough = omega (arith, spare, most);
+      drawn = λ u behind. ap (λ (x : DrawView). occurrences u x.drawn) is ∙ occurrences-nil u;
+      ended = λ w behind. ap (λ (x : DrawView). occurrences w x.ended) is ∙ occurrences-nil w;
+    }
+
+pub nothing_printed : (d : DumpText) (old : Option (List ℕ)) → GainsPart old old d.text
+nothing_printed d old = GainsPart-nothing old old d.text (Gains-nothing old)

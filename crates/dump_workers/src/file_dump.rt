@@ -94,7 +94,6 @@ fn dump_windows<'f, R: Threads + Sync, G: Gate + Sync, O: Sink, L: Send>(
 /// # Errors
 /// `WriteFault` only where the sink counted a fault, and `OutOfMemory` for want of memory. The sink has then
 /// a part of the same bytes.
-#[tactic(auto, using(crate::proofs::WindowSums::stands_first, crate::proofs::WindowSums::nothing_printed, crate::proofs::SeatLaws::each_same))]
 pub fn dump<'f, R: Threads + Sync, G: Gate + Sync, O: Sink, L: Send>(
     rt: &R,
     alloc: Global,

@@ -1,5 +1,5 @@
 -- What a query prints.
-use Rattle.std.specs.Prelude.{ℕ, List, [], Option, Some, Result, Ok, Err}
+use Rattle.std.specs.Prelude.{ℕ, List, [], Some, Result, Ok, Err}
 use Rattle.elf_sections.specs.Shapes.{SectionsView}
 use Rattle.visit_queries.specs.Seen.{Meanings, report_on}
 use Rattle.visit_queries.specs.Shown.{RefusedUnit, met_in}

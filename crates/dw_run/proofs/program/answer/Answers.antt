@@ -7,16 +7,16 @@ pub returns-in-Addresses : goal.returns-in-Addresses
 unfolding file_request_of
 returns-in-Addresses g c = rw c.in-Addresses.is (ends_addresses _ _ c.as_slice.ensures.value _ _ _ _ _ _ _ _ _ _ _ _ _ c.answer_on_file-in-Addresses.ensures)
 
-pub returns-in-Query-Some : goal.returns-in-Query-Some
+pub returns-in-Some : goal.returns-in-Some
 unfolding file_request_of
-returns-in-Query-Some g c =
-    rw c.in-Query.is (ends_queried _ _ (ap (option_map _) (sym c.in-Query-Some.is) ∙ c.pick.ensures) _ _ _ _ _ _ _ _ _ _ _ _ _ c.answer_on_file-in-Query-Some.ensures)
+returns-in-Some g c =
+    rw c.in-Query.is (ends_queried _ _ (ap (option_map _) (sym c.in-Some.is) ∙ c.pick.ensures) _ _ _ _ _ _ _ _ _ _ _ _ _ c.answer_on_file-in-Some.ensures)
 
-pub returns-in-Query-None : goal.returns-in-Query-None
+pub returns-in-None : goal.returns-in-None
 unfolding file_request_of
-returns-in-Query-None g c =
-    rw c.in-Query.is (ends_queried None _ (ap (option_map _) (sym c.in-Query-None.is) ∙ c.pick.ensures) _ _ _ _ _ _ _ _ _ _ _ _ _
-    (ends_misunderstood _ _ _ _ _ _ _ _ _ _ c.end_misunderstood-in-Query-None.ensures))
+returns-in-None g c =
+    rw c.in-Query.is (ends_queried None _ (ap (option_map _) (sym c.in-None.is) ∙ c.pick.ensures) _ _ _ _ _ _ _ _ _ _ _ _ _
+    (ends_misunderstood _ _ _ _ _ _ _ _ _ _ c.end_misunderstood-in-None.ensures))
 
 pub returns-in-Exercise : goal.returns-in-Exercise
 unfolding file_request_of

@@ -183,3 +183,7 @@ module _ (layout : ClassLayout) (sections : List Given) where
 
 pub elf_read : (file : GivenFile) → IsBuildable file → elf_of (elf_file_of file) ≡ Ok (table_of_given file)
 elf_read file b = read file.layout file.sections (parts_lie file.layout file.sections) b.fits b.few b.names
+
+-- how long it is
+pub built_long : (file : GivenFile) → length (elf_file_of file) ≡ file_header_size file.layout + length (parts_of file.sections) + (2 + length file.sections) * section_header_size file.layout
+built_long file = (parts_lie file.layout file.sections).size

@@ -1,0 +1,2 @@
+-- What two dumps of one file tell.
+pub mod Twice

@@ -9,6 +9,15 @@ use Rattle.dump_workers.specs.UnitDumps.{file_entries}
 use Rattle.exercise_file.specs.Keys.{generated_key_count}
 use Rattle.exercise_file.specs.Views.{generated_sections}
 
+-- what the first dump of a file tells of it
+abbrev pub published_view : SectionsView → ℕ → PublishedView
+published_view s workers = record {
+  number = published_count s;
+  units = unit_count s.info s.order;
+  entries = file_entries s;
+  workers = workers;
+}
+
 -- The first dump of a file tells its units, its entries and the keys that its table has then, and wrote the text of the dump;
 -- the second one makes no step, and writes the same.
 pub record TellsOf (s : SectionsView) (workers : ℕ) (published : PublishedView)

@@ -1,15 +1,11 @@
 //! The two dumps.
 
-ghost use Rattle.std.specs.Prelude.{◌≡◌, ◌≤◌, ◌<◌, ◌*◌, true, IfOk, length};
-ghost use Rattle.unit_headers.specs.Headers.{unit_count};
+ghost use Rattle.std.specs.Prelude.{◌≡◌, ◌≤◌, ◌<◌, ◌*◌, IfOk, bytes_eq, length};
 ghost use Rattle.handle_cache.specs.Handles.{IsOpenedOn, sections_in};
 ghost use Rattle.handle_cache.specs.Scanned.{room_for};
-ghost use Rattle.dump_workers.specs.Dumps.{dump_of};
 ghost use Rattle.dump_workers.specs.FileKeys.{HasSmallCodes, RefusesNone};
 ghost use Rattle.dump_workers.specs.TableKeys.{table_keys};
-ghost use Rattle.dump_workers.specs.UnitDumps.{file_entries};
 ghost use Rattle.dump_workers.specs.declared.serving.TheConstants.{MOST_WORKERS};
-ghost use Rattle.exercise_file.specs.Keys.{generated_key_count};
 ghost use Rattle.exercise_file.specs.Views.{generated_sections};
 ghost use Rattle.exercise_file.specs.declared.generated.TheConstants.{MOST_UNITS};
 ghost use Rattle.exercise_dumps.specs.Twice.{ShowsAll, TellsOf};
@@ -36,6 +32,13 @@ pub struct Exercise {
     pub equal: bool,
 }
 
+/// Whether two texts are the same.
+fn is_same(first: &[u8], second: &[u8]) -> bool
+    ensures { result ≡ bytes_eq first.now second.now }
+{
+    first == second
+}
+
 /// Dumps an opened file of which no unit is refused, joins all passes and splits them off again, and dumps it
 /// once more.
 fn dump_again<'f, R: Threads + Sync, G: Gate + Sync>(
@@ -59,7 +62,10 @@ fn dump_again<'f, R: Threads + Sync, G: Gate + Sync>(
     pass.recall();
     handle.recall();
     let Dumped {
-        whole, out, pass, ..
+        whole,
+        out,
+        pass,
+        ..
     } = dump_once(rt, alloc, handle, pass, workers, gate)?;
     let published = published(handle, whole, &pass);
     pass.recall();
@@ -68,7 +74,7 @@ fn dump_again<'f, R: Threads + Sync, G: Gate + Sync>(
         published,
         bytes: out.bytes().len() as u64,
         again: second.steps,
-        equal: out.bytes() == second.out.bytes(),
+        equal: is_same(out.bytes(), second.out.bytes()),
     })
 }
 
@@ -87,7 +93,10 @@ pub fn dump_twice<R: Threads + Sync, G: Gate + Sync>(
     requires units { units ≤ MOST_UNITS }
     requires some { 1 ≤ workers }
     requires few { workers ≤ MOST_WORKERS }
-    ensures { IfOk result (λ e. ShowsAll units workers e.published e.bytes e.again e.equal) }
+    ensures tells { IfOk result (λ e. TellsOf (generated_sections units) workers
+        e.published e.bytes e.again e.equal) }
+    ensures shows { IfOk result (λ e. ShowsAll units workers
+        e.published e.bytes e.again e.equal) }
 {
     let file = generate(alloc, u64::from(units))?;
     match Handle::open(alloc, file.as_slice(), 2 * workers) {

@@ -22,5 +22,5 @@ returns g c =
       number_is = c.published-published.ensures.file first.all first.holds;
       bytes_are = ap (λ (t : List ℕ). length t) (c.bytes.ensures ∙ first.text);
       again_is = c.in_ok-second.ensures.steps knows;
-      equal_is = c.eq.ensures ∙ ap₂ bytes_eq (c.bytes-2.ensures ∙ first.text) (c.bytes-3.ensures ∙ c.in_ok-second.ensures.text) ∙ nat_list_eq_equiv.refl (dump_of s).text;
+      equal_is = c.is_same.ensures ∙ ap₂ bytes_eq (c.bytes-2.ensures ∙ first.text) (c.bytes-3.ensures ∙ c.in_ok-second.ensures.text) ∙ nat_list_eq_equiv.refl (dump_of s).text;
     }

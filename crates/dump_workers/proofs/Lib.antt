@@ -1,5 +1,6 @@
 pub mod EntryCounts
 pub mod UnitKeys
+pub mod RefusalLaws
 pub mod SeatLaws
 pub mod DumpLaws
 pub mod ReadingLaws

@@ -15,6 +15,7 @@ mod passes;
 mod printing;
 mod publish;
 mod reading;
+mod refused;
 mod seat;
 mod serving;
 mod unit;

@@ -89,6 +89,8 @@ pub(crate) fn print_units<O: Sink>(
                 }
                 *entries += u64::from(*count);
             }
+            // the printing ends at the refused unit before it
+            UnitRead::Skipped => return Ok(None),
             UnitRead::Refused(fault) => {
                 return Ok(Some(RefusedUnit {
                     unit,

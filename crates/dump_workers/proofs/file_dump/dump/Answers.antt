@@ -26,5 +26,5 @@ returns-in-Ok-clause-only g c =
 pub returns-in-Ok-clause-size : goal.returns-in-Ok-clause-size
 returns-in-Ok-clause-size g c = each_length c.args.seats.now.items c.dump_windows.new.seats.items c.dump_windows.ensures.follow
 
-pub returns-in-Err-clause-follow : goal.returns-in-Err-clause-follow
-returns-in-Err-clause-follow g c = each_same c.args.seats.now.items
+pub returns-clause-follow : goal.returns-clause-follow
+returns-clause-follow g c = each_same c.args.seats.now.items

@@ -1,6 +1,6 @@
 //! Each source and sink in memory once, with memory for all that it takes.
 
-use crate::{
+use dw_outside::{
     Gate, MemorySink, MemorySource, NoFaultSink, NoFaultSource, OpenGate, ReadStop, Sink, Source,
     WriteStop, read_file, write_all,
 };

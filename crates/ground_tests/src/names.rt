@@ -1,5 +1,7 @@
-//! Each call once, with names of the public standard.
-use super::*;
+//! Each call of `dw_names` once, with names of the public standard.
+use dw_names::{
+    attribute_name, form_name, push_attribute_after, push_form_after, push_tag_after, tag_name,
+};
 use std::test::Fail;
 
 #[test]

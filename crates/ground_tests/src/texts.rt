@@ -1,5 +1,9 @@
-//! Each call once, with texts that were written by hand.
-use super::*;
+//! Each call of `dw_text` once, with texts that were written by hand.
+use dw_text::{
+    LineBuffer, push_decimal, push_decimal_after, push_escaped, push_escaped_after, push_hex,
+    push_hex_after, push_hex_bytes, push_hex_bytes_after, push_signed, push_signed_after,
+    push_sixteen, push_sixteen_after, push_text, push_text_after,
+};
 use std::test::Fail;
 
 #[test]

@@ -1,7 +1,7 @@
 //! Real files and real streams: what is written is what is read back, byte by byte, and each
 //! failure is told and counted.
 
-use crate::{FileSource, ReadStop, Sink, Source, StreamSink, WriteStop, read_file, write_all};
+use dw_outside::{FileSource, ReadStop, Sink, Source, StreamSink, WriteStop, read_file, write_all};
 use std::alloc::{AllocError, Global};
 use std::io::{Read, Write};
 use std::os::fd::AsRawFd;

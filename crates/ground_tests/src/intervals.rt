@@ -1,6 +1,6 @@
 //! Overlapping intervals, each number of them compared with a walk.
 
-use crate::{Interval, IntervalIndex};
+use interval_index::{Interval, IntervalIndex};
 
 /// They overlap, lie in one another, end where others begin, have no number, or the wrong way round.
 const INTERVALS: [Interval; 9] = [

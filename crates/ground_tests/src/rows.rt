@@ -1,6 +1,6 @@
 //! Two units: sequences that overlap, one that falls, and rows behind the last end of a sequence.
 
-use crate::{KeptRow, RowIndex};
+use row_index::{KeptRow, RowIndex};
 
 fn row(address: u64, line: u64, end: bool) -> KeptRow {
     KeptRow {

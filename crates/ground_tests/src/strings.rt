@@ -1,7 +1,7 @@
-//! Texts of a worked table: within a block, over several blocks, without an end and outside.
+//! Texts of a worked string table: within a block, over several blocks, without an end and outside.
 
-use crate::{StringTable, first_zero};
 use std::test::Fail;
+use string_tables::{StringTable, first_zero};
 
 #[test]
 fn texts_end_behind_their_block(rt: HostRuntime) -> Result<(), Fail> {

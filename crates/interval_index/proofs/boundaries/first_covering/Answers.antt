@@ -2,7 +2,7 @@ use Rattle.std.proofs.Common.{rules, leb, arith}
 use Rattle.std.proofs.lemmas.List.Sorted.{IsPartitionPoint-from_clause, IsPartitionedBy-leb}
 use Rattle.interval_index.specs.declared.boundaries.Boundary.{Boundary}
 use Rattle.interval_index.proofs.Bisection.{non_decreasing, told_at, told_nothing}
-use Rattle.interval_index.proofs.boundaries.first_told.Goals as goal
+use Rattle.interval_index.proofs.boundaries.first_covering.Goals as goal
 
 pub returns-then-count-eq0 : goal.returns-then-count-eq0
 returns-then-count-eq0 c =

@@ -17,7 +17,7 @@ use Rattle.address_lookup.specs.declared.programs.UnitProgram.{UnitProgram}
 use Rattle.address_lookup.specs.declared.tables.Tables.{Tables}
 use Rattle.address_lookup.specs.declared.tables.UnitTable.{UnitTable}
 use Rattle.address_lookup.specs.Kept.{KeptTable, kept_place, kept_place_of, kept_table, kept_table_view}
-use Rattle.address_lookup.specs.Built.{AddsTable, IsGathered, NotesProgram, TellsNothing, key_cmp, place_from, was_run}
+use Rattle.address_lookup.specs.Built.{AddsTable, IsGathered, NotesProgram, TellsNothing, key_cmp, kept_answer, was_run}
 use Rattle.address_lookup.specs.Places.{PlaceView, place_in_unit}
 use Rattle.address_lookup.specs.Programs.{key_of, table_at, unit_program, unit_table}
 use Rattle.address_lookup.proofs.Found.{table_tells}
@@ -47,10 +47,10 @@ pub noted_key : (old now : BTreeSet ProgramKey) (key k : ProgramKey) → was_run
     → (was_run old k ≡ true) ⊎ (k ≡ key)
 noted_key old now key k is was = same_key key k (was_run old k) (either (is_eq (key_cmp key k)) (was_run old k) (sym is ∙ was))
 
-run_after : (s : SectionsView) (unit : ℕ) (old now : Tables) (key k : ProgramKey) → AddedTo unit (table_at s key) (place_from old) (place_from now) → IsGathered s old
-    → ((was_run old.programs k ≡ true) ⊎ (k ≡ key)) → TellsNothing s (place_from now) k
-run_after s unit old now key k added h (inl before) = nothing_later s unit (table_at s key) (place_from old) (place_from now) k added (h.run k before)
-run_after s unit old now key k added h (inr same) = subst (TellsNothing s (place_from now)) (sym same) (nothing_again s unit (place_from old) (place_from now) key added)
+run_after : (s : SectionsView) (unit : ℕ) (old now : Tables) (key k : ProgramKey) → AddedTo unit (table_at s key) (kept_answer old) (kept_answer now) → IsGathered s old
+    → ((was_run old.programs k ≡ true) ⊎ (k ≡ key)) → TellsNothing s (kept_answer now) k
+run_after s unit old now key k added h (inl before) = nothing_later s unit (table_at s key) (kept_answer old) (kept_answer now) k added (h.run k before)
+run_after s unit old now key k added h (inr same) = subst (TellsNothing s (kept_answer now)) (sym same) (nothing_again s unit (kept_answer old) (kept_answer now) key added)
 
 -- the tables behind a step
 pub gathered_after : (s : SectionsView) (unit : ℕ) (program : UnitProgram) (old now : Tables) (is_new : Bool) → old.texts ≡ s → now.texts ≡ s
@@ -59,7 +59,7 @@ gathered_after s unit program old now is_new before texts sizes notes added h = 
   texts = texts;
   sizes = sizes;
   run = λ k was.
-      let mine : AddedTo unit (table_at s (key_of program)) (place_from old) (place_from now) = subst (λ (t : SectionsView). AddedTo unit (table_at t (key_of program)) (place_from old) (place_from now)) before added in
+      let mine : AddedTo unit (table_at s (key_of program)) (kept_answer old) (kept_answer now) = subst (λ (t : SectionsView). AddedTo unit (table_at t (key_of program)) (kept_answer old) (kept_answer now)) before added in
       run_after s unit old now (key_of program) k mine h (notes.others k was);
 }
 
@@ -79,8 +79,8 @@ added_by unit program old now table sizes units rows number few is a x =
     ap (λ us. option_or (kept_place_of us (map (λ v. v.items) now.rows.items) a) x) units
     ∙ ap (λ rs. option_or (kept_place_of (old.units.items ++ table.names ∷ []) rs a) x) (ap (map (λ v. v.items)) rows ∙ map_push (λ v. v.items) old.rows.items table.rows)
     ∙ ap (λ o. option_or o x) (kept_more old.units.items (map (λ v. v.items) old.rows.items) table.names table.rows.items a (sizes ∙ sym (length-map old.rows.items (λ v. v.items))))
-    ∙ or_associates (place_from old a) (option_map (kept_place table.names) (row_at table.rows.items a)) x
-    ∙ ap (λ o. option_or (place_from old a) (option_or o x)) (table_tells table.names table.rows.items read a few is ∙ ap (λ n. place_in_unit n (result_ok read) a) number)
+    ∙ or_associates (kept_answer old a) (option_map (kept_place table.names) (row_at table.rows.items a)) x
+    ∙ ap (λ o. option_or (kept_answer old a) (option_or o x)) (table_tells table.names table.rows.items read a few is ∙ ap (λ n. place_in_unit n (result_ok read) a) number)
 
 -- the same of a table that was found
 pub added_some : (unit : ℕ) (program : UnitProgram) (old now : Tables) (table : UnitTable) (found : Option UnitTable) → found ≡ Some table → length old.units.items ≡ length old.rows.items
@@ -114,8 +114,8 @@ none_added s unit known none a x =
 
 -- one with a program adds its table
 pub some_added : (s : SectionsView) (unit : ℕ) (program : UnitProgram) (old now : Tables) → unit_program s unit ≡ Some program → old.texts ≡ s → AddsTable unit program old now
-    → AddedTo unit (unit_table s unit) (place_from old) (place_from now)
+    → AddedTo unit (unit_table s unit) (kept_answer old) (kept_answer now)
 some_added s unit program old now some texts added a x =
     added a x
-    ∙ ap (λ (t : SectionsView). option_or (place_from old a) (option_or (place_in_unit unit (table_at t (key_of program)) a) x)) texts
-    ∙ ap (λ p. option_or (place_from old a) (option_or (place_in_unit unit (option_and_then (λ program. table_at s (key_of program)) p) a) x)) (sym some)
+    ∙ ap (λ (t : SectionsView). option_or (kept_answer old a) (option_or (place_in_unit unit (table_at t (key_of program)) a) x)) texts
+    ∙ ap (λ p. option_or (kept_answer old a) (option_or (place_in_unit unit (option_and_then (λ program. table_at s (key_of program)) p) a) x)) (sym some)

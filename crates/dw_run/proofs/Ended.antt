@@ -6,6 +6,7 @@ use Rattle.dw_outside.specs.Gains.{Gains, GainsPart}
 use Rattle.dw_outside.specs.GainsLaws.{Gains-nothing, GainsPart-whole, GainsPart-nothing}
 use Rattle.elf_sections.specs.declared.class_layout.TheConstants.{FILE_LIMIT}
 use Rattle.elf_sections.specs.Laws.{elf_of_whole}
+use Rattle.visit_queries.specs.Named.{Named}
 use Rattle.dw_run.specs.declared.refusals.Refusal.{Refusal}
 use Rattle.elf_sections.specs.Rows.{ElfView}
 use Rattle.dw_run.specs.Endings.{EndsRefused, EndsWith, misunderstood_line, no_memory_line, unread_line}
@@ -13,7 +14,7 @@ use Rattle.dw_run.specs.Output.{Ends, EndsRun, Meets, NothingFailed, Output, Sto
 use Rattle.dw_run.specs.AddressLines.{addresses_printed}
 use Rattle.dw_run.specs.CommandTexts.{CommandText}
 use Rattle.dw_run.specs.Commands.{text_of_sections}
-use Rattle.dw_run.specs.FileRequests.{FileRequest, on_file}
+use Rattle.dw_run.specs.FileRequests.{FileRequest, on_file, queried}
 
 -- all was printed, and nothing is refused
 pub ends_done : (printed : CommandText) (out0 out1 err : Option (List ℕ)) (out_faults0 out_faults1 err_faults : ℕ)
@@ -225,3 +226,11 @@ pub ends_addresses : (slice addresses : List ℕ) → slice ≡ addresses → (n
     → EndsRun (Some (on_file name (text_of_sections (addresses_printed addresses)))) holds status out0 out1 err0 err1 source0 source1 out_faults0 out_faults1 err_faults0 err_faults1
 ends_addresses slice addresses same name holds status out0 out1 err0 err1 source0 source1 out_faults0 out_faults1 err_faults0 err_faults1 end =
     subst (λ (xs : List ℕ). EndsRun (Some (on_file name (text_of_sections (addresses_printed xs)))) holds status out0 out1 err0 err1 source0 source1 out_faults0 out_faults1 err_faults0 err_faults1) same end
+
+-- a query by the visitor that was found
+pub ends_queried : (found named : Option Named) → found ≡ named → (file : List ℕ) (holds : List ℕ → Option (List ℕ)) (status : ℕ)
+    (out0 out1 err0 err1 : Option (List ℕ)) (source0 source1 out_faults0 out_faults1 err_faults0 err_faults1 : ℕ)
+    → EndsRun (queried file found) holds status out0 out1 err0 err1 source0 source1 out_faults0 out_faults1 err_faults0 err_faults1
+    → EndsRun (queried file named) holds status out0 out1 err0 err1 source0 source1 out_faults0 out_faults1 err_faults0 err_faults1
+ends_queried found named same file holds status out0 out1 err0 err1 source0 source1 out_faults0 out_faults1 err_faults0 err_faults1 end =
+    subst (λ (v : Option Named). EndsRun (queried file v) holds status out0 out1 err0 err1 source0 source1 out_faults0 out_faults1 err_faults0 err_faults1) same end

@@ -7,3 +7,4 @@ pub mod Endings
 pub mod Output
 pub mod RefusalLines
 pub mod Parts
+pub mod Queries

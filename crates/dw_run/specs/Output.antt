@@ -6,6 +6,7 @@ use Rattle.dw_outside.specs.Gains.{Gains, GainsPart}
 use Rattle.elf_sections.specs.Names.{elf_of}
 use Rattle.elf_sections.specs.declared.refusals.ElfRefusal.{ElfRefusal}
 use Rattle.elf_sections.specs.Rows.{ElfView}
+use Rattle.visit_queries.specs.Named.{Named}
 use Rattle.dw_run.specs.declared.refusals.Refusal.{Refusal}
 use Rattle.dw_run.specs.declared.refusals.Refusal.TheVariants as refusals
 use Rattle.dw_run.specs.Endings.{PartOfLine, misunderstood_line, unread_line}
@@ -55,8 +56,8 @@ output_of_request (Some request) holds =
     option_map (λ file. output_of_text (text_of_file request.text file)) (holds request.file)
 
 -- the output; none where the source doesn't tell what the name holds
-abbrev pub output_of : List (List ℕ) → (List ℕ → Option (List ℕ)) → Option Output
-output_of words holds = output_of_request (asked_by words) holds
+abbrev pub output_of : List (List ℕ) → List Named → (List ℕ → Option (List ℕ)) → Option Output
+output_of words visitors holds = output_of_request (asked_by words visitors) holds
 
 -- the status is the output's, and both sinks gained its bytes
 pub record Meets (o : Output) (status : ℕ) (out0 out1 err0 err1 : Option (List ℕ)) : Type 0 where

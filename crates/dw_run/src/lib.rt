@@ -19,6 +19,7 @@ mod laws;
 mod opened;
 mod parts;
 mod program;
+mod queries;
 mod refusal_lines;
 mod refusals;
 mod section_lines;

@@ -13,9 +13,11 @@ use crate::addresses::Addresses;
 use crate::endings::{NO_MEANING, NO_MEMORY, end_with};
 use crate::file_command::answer_on_file;
 use crate::parts::Part;
+use crate::queries::Query;
 use dw_outside::{Sink, Source};
 use dw_words::{Request, WordsRefusal, read_words};
 use std::alloc::Global;
+use visit_queries::{IsNamed, NamedVisitor, pick};
 
 /// How a run ended.
 #[derive(Clone, Copy, Debug, PartialEq, Eq)]
@@ -27,22 +29,26 @@ pub struct RunEnd {
 
 /// Does what the words after the program's name ask for: reads the file that they name from
 /// `source`, and writes the texts of their command to `out` and the line of a refusal to `err`. The
-/// first failure of the source or of a sink ends the reading and the writing to `out`.
+/// first failure of the source or of a sink ends the reading and the writing to `out`. A query is
+/// answered by the first of `visitors` that has its name; where none has it, the words have no meaning.
 pub fn run<S: Source, O: Sink, E: Sink>(
     alloc: Global,
     words: &[String],
     source: &mut S,
     out: &mut O,
     err: &mut E,
+    visitors: Vec<NamedVisitor>,
 ) -> RunEnd
     ensures answers { result.status ≤ 5 }
 
     // the defined output, whole, with the statuses 0, 1 and 2
     ensures output { result.status < 3
-        → IfSome (output_of (map string_bytes words.now) (S.holds source.old))
+        → IfSome (output_of (map string_bytes words.now)
+        (map ⟦<NamedVisitor as IsNamed>⟧.named visitors.items) (S.holds source.old))
         (λ output. Meets output result.status
         (O.held out.old) (O.held out.new) (E.held err.old) (E.held err.new)) }
-    ensures meaningless { result.status ≡ 2 → asked_by (map string_bytes words.now) ≡ None }
+    ensures meaningless { result.status ≡ 2 → asked_by (map string_bytes words.now)
+        (map ⟦<NamedVisitor as IsNamed>⟧.named visitors.items) ≡ None }
 
     // each other status has its cause, and leaves nothing or a prefix on `out`
     ensures read { result.status ≡ 3 → Rose (S.faults source.old) (S.faults source.new) }
@@ -50,24 +56,27 @@ pub fn run<S: Source, O: Sink, E: Sink>(
         × Gains (E.held err.old) (E.held err.new) unread_line }
     ensures written { result.status ≡ 4
         → Rose (O.faults out.old) (O.faults out.new) ⊎ Rose (E.faults err.old) (E.faults err.new) }
-    ensures prefix { IfSome (output_of (map string_bytes words.now) (S.holds source.old))
+    ensures prefix { IfSome (output_of (map string_bytes words.now)
+        (map ⟦<NamedVisitor as IsNamed>⟧.named visitors.items) (S.holds source.old))
         (λ output. GainsPart (O.held out.old) (O.held out.new) output.out) }
 
     // and a prefix of one line on `err`
     ensures stopped { 3 < result.status
-        → IfSome (output_of (map string_bytes words.now) (S.holds source.old))
+        → IfSome (output_of (map string_bytes words.now)
+        (map ⟦<NamedVisitor as IsNamed>⟧.named visitors.items) (S.holds source.old))
         (λ output. StopsWithin output.err (S.faults source.old) (S.faults source.new)
         (E.held err.old) (E.held err.new)) }
 
     // where the words have a meaning and nothing outside failed, the file is answered, or memory
     // was wanted
-    ensures complete { IsSome (asked_by (map string_bytes words.now))
+    ensures complete { IsSome (asked_by (map string_bytes words.now)
+        (map ⟦<NamedVisitor as IsNamed>⟧.named visitors.items))
         → NothingFailed (S.faults source.old) (S.faults source.new)
         (O.faults out.old) (O.faults out.new) (E.faults err.old) (E.faults err.new)
         → (result.status < 2) ⊎ (result.status ≡ 5) }
 {
     RunEnd {
-        status: answer_words(alloc, words, source, out, err),
+        status: answer_words(alloc, words, source, out, err, visitors),
     }
 }
 
@@ -78,14 +87,16 @@ fn answer_words<S: Source, O: Sink, E: Sink>(
     source: &mut S,
     out: &mut O,
     err: &mut E,
+    visitors: Vec<NamedVisitor>,
 ) -> u8
-    ensures { EndsRun (asked_by (map string_bytes words.now)) (S.holds source.old) result
+    ensures { EndsRun (asked_by (map string_bytes words.now)
+        (map ⟦<NamedVisitor as IsNamed>⟧.named visitors.items)) (S.holds source.old) result
         (O.held out.old) (O.held out.new) (E.held err.old) (E.held err.new)
         (S.faults source.old) (S.faults source.new) (O.faults out.old) (O.faults out.new)
         (E.faults err.old) (E.faults err.new) }
 {
     match read_words(alloc, words) {
-        Ok(request) => answer(alloc, &request, source, out, err),
+        Ok(request) => answer(alloc, &request, source, out, err, visitors),
         Err(WordsRefusal::NoMeaning) => end_misunderstood(err),
         Err(WordsRefusal::OutOfMemory) => end_with(err, b"dwtool: out of memory\n", NO_MEMORY),
     }
@@ -99,8 +110,10 @@ fn answer<S: Source, O: Sink, E: Sink>(
     source: &mut S,
     out: &mut O,
     err: &mut E,
+    visitors: Vec<NamedVisitor>,
 ) -> u8
-    ensures { EndsRun (file_request_of (request_view request.now)) (S.holds source.old) result
+    ensures { EndsRun (file_request_of (map ⟦<NamedVisitor as IsNamed>⟧.named visitors.items)
+        (request_view request.now)) (S.holds source.old) result
         (O.held out.old) (O.held out.new) (E.held err.old) (E.held err.new)
         (S.faults source.old) (S.faults source.new) (O.faults out.old) (O.faults out.new)
         (E.faults err.old) (E.faults err.new) }
@@ -119,7 +132,15 @@ fn answer<S: Source, O: Sink, E: Sink>(
             };
             answer_on_file(alloc, command, file, source, out, err)
         }
-        Request::Query { .. } => end_misunderstood(err),
+        Request::Query { visitor, file } => match pick(visitors, visitor) {
+            Some(found) => {
+                let query = Query {
+                    visitor: found.visitor,
+                };
+                answer_on_file(alloc, query, file, source, out, err)
+            }
+            None => end_misunderstood(err),
+        },
         Request::Exercise { .. } => end_misunderstood(err),
     }
 }

@@ -9,9 +9,13 @@ use crate::peak::peak_text;
 use dw_fields::Order;
 use dw_outside::{MemorySink, MemorySource, Source};
 use dw_run::{ElfBuilder, run};
-use std::alloc::Global;
+use std::alloc::{AllocError, Global};
 use std::io;
 use std::rt::Files;
+use visit_queries::{Functions, NamedVisitor, Types, Variables, Visitor};
+
+/// How many entries a visitor keeps.
+const MOST_ENTRIES: u64 = 7;
 
 /// Does what the line says.
 pub fn run_line<R: Print + Files + AllocGlobal>(
@@ -156,7 +160,14 @@ fn text_from<S: Source>(
 ) -> io::Result<Vec<u8>> {
     let mut out = MemorySink::new(alloc, row.failing_out.clone()?);
     let mut err = MemorySink::new(alloc, row.failing_err.clone()?);
-    let end = run(alloc, words, source, &mut out, &mut err);
+    let functions: Box<dyn Visitor> = Box::new(alloc, Functions::new(alloc, MOST_ENTRIES))?;
+    let variables: Box<dyn Visitor> = Box::new(alloc, Variables::new(alloc, MOST_ENTRIES))?;
+    let types: Box<dyn Visitor> = Box::new(alloc, Types::new(alloc, MOST_ENTRIES))?;
+    let mut visitors = Vec::new(alloc);
+    visitors.push(named(alloc, "functions", functions)?)?;
+    visitors.push(named(alloc, "variables", variables)?)?;
+    visitors.push(named(alloc, "types", types)?)?;
+    let end = run(alloc, words, source, &mut out, &mut err, visitors);
     let mut text = Vec::new(alloc);
     if counted {
         push_last(alloc, &mut text, out.bytes())?;
@@ -167,6 +178,12 @@ fn text_from<S: Source>(
     let status = end.status;
     text.extend_from_slice(format!(in alloc; "status {status}\n")?.as_bytes())?;
     Ok(text)
+}
+
+/// A visitor with a name.
+fn named(alloc: Global, name: &str, visitor: Box<dyn Visitor>) -> Result<NamedVisitor, AllocError> {
+    let name = String::from_str(alloc, name)?;
+    Ok(NamedVisitor { name, visitor })
 }
 
 /// How many lines there are, and the last of them.

@@ -7,5 +7,5 @@ returns-in-Ok g c = rw c.in-Ok.ensures c.answer.ensures
 pub returns-in-Err-NoMeaning : goal.returns-in-Err-NoMeaning
 returns-in-Err-NoMeaning g c = let none = rw c.in-Err-NoMeaning.field-0-is at c.in-Err-NoMeaning.ensures in rw none (ends_misunderstood _ _ _ _ _ _ _ _ _ _ c.end_misunderstood.ensures)
 
-pub returns-in-Err-OutOfMemory : goal.returns-in-Err-OutOfMemory
-returns-in-Err-OutOfMemory g c = ends_without_memory _ _ _ _ _ _ _ _ _ _ _ c.end_with.ensures
+pub returns : goal.returns
+returns g c = ends_without_memory _ _ _ _ _ _ _ _ _ _ _ c.end_with.ensures

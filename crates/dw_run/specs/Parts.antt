@@ -24,6 +24,12 @@ unit_of s header = do
   entries ← entries_of s header
   Ok (facts, entries)
 
+-- the lists of a unit with these facts: refused at an entry, or else in a list
+unfoldable pub lists_with : SectionsView → UnitHeader → UnitFacts → Text
+lists_with s header facts = do
+  entries ← entries_of s header
+  lists_text (record { sections = s; header = header; facts = facts }) entries
+
 -- The line of a unit; its whole text, refused where the unit is or at a value that can't be resolved; its line table,
 -- refused at the unit's root or in the line program; its lists, refused where the unit is or in a list.
 unfoldable pub part_of : Part → SectionsView → UnitHeader → Text

@@ -10,7 +10,7 @@ use bumpalo::Bump;
 use line_text::write_lines_with;
 use std::alloc::Global;
 use unit_headers::UnitRefusal;
-use unit_text::{write_lists_with, write_unit, write_unit_line};
+use unit_text::{write_unit, write_unit_line};
 
 /// A part of a unit.
 #[derive(Clone, Copy, Debug, PartialEq, Eq)]
@@ -56,8 +56,7 @@ pub fn append_part(
         }
         Part::Lists => {
             let facts = reader.facts(unit)?;
-            let entries = reader.entries(arena, &header)?;
-            write_lists_with(alloc, &mut reader.lists, &header, &facts, entries, out)
+            reader.write_lists(alloc, arena, &header, &facts, out)
         }
     }
 }

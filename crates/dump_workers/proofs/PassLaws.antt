@@ -28,7 +28,7 @@ use Rattle.dump_workers.specs.declared.ends.DumpEnd.TheVariants.{Whole, Refused}
 use Rattle.dump_workers.specs.declared.ends.DumpFault.{DumpFault}
 use Rattle.dump_workers.specs.Dumps.{Ends, WholeRefusesNone, dump_from, dump_of, unit_dumped}
 use Rattle.dump_workers.specs.FileKeys.{IsFileKey, RefusesNone}
-use Rattle.dump_workers.specs.Passes.{AreLed, EachHasFront, EachOwnsOnly, HasAllPasses, HaveAllPasses, KeepsPasses, NoneIsFirst, pass_count}
+use Rattle.dump_workers.specs.Passes.{AreLed, EachAtZero, EachHasFront, EachOwnsOnly, HasAllPasses, HaveAllPasses, KeepsPasses, NoneIsFirst, pass_count}
 use Rattle.dump_workers.specs.Seats.{DumpSeatView, EachBelongs, EachFollows, EachReads, SeatsNoteFile, SomeSeatNotes}
 use Rattle.dump_workers.specs.TableKeys.{HoldsFile, OwnsOnly}
 use Rattle.dump_workers.specs.UnitDumps.{unit_dump}
@@ -189,6 +189,10 @@ pub fronts_push : (front : List Entry) (xs : List DumpSeatView) (x : DumpSeatVie
 fronts_push front [] x all one = (one, tt)
 fronts_push front (y ∷ ys) x all one = (all.0, fronts_push front ys x all.1 one)
 
+pub zero_push : (xs : List DumpSeatView) (x : DumpSeatView) → EachAtZero xs → x.steps ≡ 0 → EachAtZero (xs ++ x ∷ [])
+zero_push [] x all one = (one, tt)
+zero_push (y ∷ ys) x all one = (all.0, zero_push ys x all.1 one)
+
 pub only_push : (s : SectionsView) (xs : List DumpSeatView) (x : DumpSeatView) → EachOwnsOnly s xs → OwnsOnly s x.pass → EachOwnsOnly s (xs ++ x ∷ [])
 only_push s [] x all one = (one, tt)
 only_push s (y ∷ ys) x all one = (all.0, only_push s ys x all.1 one)
@@ -210,6 +214,7 @@ pub record StandFor (h : HandleView) (all : List DumpSeatView) (p : PassView) (l
   pub number : p.knows.number ≡ 0
   pub others : EachBelongs h left
   pub behind : NoneIsFirst left
+  pub total : length p.knows.numbers + pass_count left ≡ pass_count all
   pub count : HaveAllPasses all → length p.knows.numbers + pass_count left ≡ p.knows.layout.passes - p.knows.spare
   pub only : (s : SectionsView) → EachOwnsOnly s all → OwnsOnly s p × EachOwnsOnly s left
   pub notes : (k : ℕ) → SomeSeatNotes k all → Notes (front_keys p) (is_spent p) k ⊎ SomeSeatNotes k left
@@ -225,6 +230,7 @@ stand_first h (x ∷ xs) first p belong led at is =
       number = led.0;
       others = belong.1;
       behind = led.1;
+      total = refl;
       count = λ all. all;
       only = λ s owns. owns;
       notes = λ k notes. notes;
@@ -241,6 +247,11 @@ stand_next fits h all left x p q r is stand of_table rest continues joined toget
       number = continues.number ∙ stand.number;
       others = stand.others.1;
       behind = stand.behind.1;
+      total =
+          let numbers : length r.knows.numbers ≡ length p.knows.numbers + length q.knows.numbers
+          = ap length joined.joins.numbers ∙ length-append p.knows.numbers q.knows.numbers in
+          let same : length q.knows.numbers ≡ length x.pass.knows.numbers = ap (λ (v : PassView). length v.knows.numbers) is in
+          let before = stand.total in omega (arith, before, numbers, same);
       count = λ all_passes.
           let before : length p.knows.numbers + (length x.pass.knows.numbers + pass_count left) ≡ p.knows.layout.passes - p.knows.spare = stand.count all_passes in
           let numbers : length r.knows.numbers ≡ length p.knows.numbers + length q.knows.numbers
@@ -270,6 +281,10 @@ stand_last h all [] p none stand s owns notes = record {
   each = λ k uses. ⊎_elim (λ (mine : Notes (front_keys p) (is_spent p) k). mine) (λ (there : SomeSeatNotes k []). absurd there) (stand.notes k (notes k uses));
 }
 stand_last h all (x ∷ xs) p none stand s owns notes = absurd (omega (arith, none))
+
+pub total_last : (h : HandleView) (all left : List DumpSeatView) (p : PassView) → length left ≡ 0 → StandFor h all p left → length p.knows.numbers ≡ pass_count all
+total_last h all [] p none stand = let total = stand.total in omega (arith, total)
+total_last h all (x ∷ xs) p none stand = absurd (omega (arith, none))
 
 pub all_last : (h : HandleView) (all left : List DumpSeatView) (p : PassView) → length left ≡ 0 → StandFor h all p left → HaveAllPasses all → HasAllPasses p.knows
 all_last h all [] p none stand passes = let count = stand.count passes in omega (arith, count)

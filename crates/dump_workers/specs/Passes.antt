@@ -36,6 +36,11 @@ pub record KeepsPasses (old new : List DumpSeatView) : Type 0 where
   pub led : AreLed old → AreLed new
   pub all : HaveAllPasses old → HaveAllPasses new
 
+-- the counters of the seats stand at 0
+abbrev pub EachAtZero : List DumpSeatView → Type 0
+EachAtZero [] = Unit {0}
+EachAtZero (seat ∷ seats) = (seat.steps ≡ 0) × EachAtZero seats
+
 -- each seat's own entries are of the file's keys
 abbrev pub EachOwnsOnly : SectionsView → List DumpSeatView → Type 0
 EachOwnsOnly s [] = Unit {0}

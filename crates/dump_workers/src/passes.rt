@@ -3,7 +3,7 @@
 ghost use Rattle.std.specs.Prelude.{◌≡◌, ◌≢◌, ◌<◌, ◌≤◌, ◌+◌, ◌-◌, ℕ, IfOk, length};
 ghost use Rattle.elf_sections.specs.Shapes.{SectionsView};
 ghost use Rattle.handle_cache.specs.Handles.{Belongs};
-ghost use Rattle.dump_workers.specs.Passes.{AreLed, EachHasFront, EachOwnsOnly, HasAllPasses, HaveAllPasses};
+ghost use Rattle.dump_workers.specs.Passes.{AreLed, EachAtZero, EachHasFront, EachOwnsOnly, HasAllPasses, HaveAllPasses, pass_count};
 ghost use Rattle.dump_workers.specs.Seats.{EachBelongs, SeatsNoteFile};
 ghost use Rattle.dump_workers.specs.TableKeys.{HoldsFile, OwnsOnly};
 
@@ -30,6 +30,9 @@ pub fn split_seats<'f>(
     ensures count { IfOk result (λ seats. length seats.items ≡ workers) }
     ensures belong { IfOk result (λ seats. EachBelongs handle.now seats.items) }
     ensures led { IfOk result (λ seats. AreLed seats.items) }
+    ensures zero { IfOk result (λ seats. EachAtZero seats.items) }
+    ensures passes { IfOk result (λ seats. pass_count seats.items
+        ≡ length first.entry.knows.numbers + (workers - 1)) }
     ensures all { IfOk result
         (λ seats. HasAllPasses first.entry.knows → HaveAllPasses seats.items) }
     ensures fronts { IfOk result (λ seats. EachHasFront first.entry.knows.front seats.items) }
@@ -55,6 +58,7 @@ pub fn join_seats<'f, L: Drop>(handle: &Handle<'f>, seats: Vec<DumpSeat<'f, L>>)
     requires led { AreLed seats.items }
     ensures belongs { Belongs handle.now result }
     ensures number { result.knows.number ≡ 0 }
+    ensures passes { length result.knows.numbers ≡ pass_count seats.entry.items }
     ensures all { HaveAllPasses seats.entry.items → HasAllPasses result.knows }
     ensures holds { (s : SectionsView) → EachOwnsOnly s seats.entry.items
         → SeatsNoteFile s seats.entry.items → HoldsFile s result }

@@ -1,14 +1,14 @@
 -- How the generated file reads.
 mod Steps
 mod Lengths
-mod FoundSections
+pub mod FoundSections
 pub mod Written
 pub mod Items
 mod Declarations
 mod UnitItems
-mod Headers
+pub mod Headers
 mod Entries
 mod Texts
-mod Dumps
+pub mod Dumps
 mod KeyLists
-mod Keys
+pub mod Keys

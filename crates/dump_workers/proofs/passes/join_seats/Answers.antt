@@ -3,7 +3,7 @@ use Rattle.std.specs.Vec.Iter.{into_iter_items, into_iter_len}
 use Rattle.map_cells.specs.Seen.{CellsView, IsOf}
 use Rattle.handle_cache.specs.Scanned.{FitsFile}
 use Rattle.dump_workers.specs.Seats.{DumpSeatView}
-use Rattle.dump_workers.proofs.PassLaws.{StandFor, all_last, stand_first, stand_last, stand_next}
+use Rattle.dump_workers.proofs.PassLaws.{StandFor, all_last, stand_first, stand_last, stand_next, total_last}
 use Rattle.dump_workers.proofs.passes.join_seats.Goals as goal
 
 pub seats-init : goal.seats-init
@@ -43,3 +43,8 @@ pub returns-clause-holds : goal.returns-clause-holds
 returns-clause-holds g c =
     let left : List DumpSeatView = into_iter_items c.seats.seat-iterator in
     stand_last c.args.handle.now c.args.seats.items left c.seats.pass (sym c.seats.invariant.size ∙ c.in-None.ensures.steps.0) c.seats.invariant.stands
+
+pub returns-clause-passes : goal.returns-clause-passes
+returns-clause-passes g c =
+    let left : List DumpSeatView = into_iter_items c.seats.seat-iterator in
+    total_last c.args.handle.now c.args.seats.items left c.seats.pass (sym c.seats.invariant.size ∙ c.in-None.ensures.steps.0) c.seats.invariant.stands

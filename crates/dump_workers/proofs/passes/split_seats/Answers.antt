@@ -1,9 +1,9 @@
 use Rattle.std.proofs.Common.{◌≡◌, ◌∙◌, ◌∷◌, ◌++◌, [], List, ap, sym, subst, arith, length, length-append}
 use Rattle.map_cells.specs.Seen.{CellsView, IsOf, PassView}
 use Rattle.map_core.specs.declared.view.View.{View}
-use Rattle.dump_workers.specs.Passes.{EachHasFront, EachOwnsOnly, NoneIsFirst, pass_count}
+use Rattle.dump_workers.specs.Passes.{EachAtZero, EachHasFront, EachOwnsOnly, NoneIsFirst, pass_count}
 use Rattle.dump_workers.specs.Seats.{DumpSeatView, EachBelongs}
-use Rattle.dump_workers.proofs.PassLaws.{belong_push, count_push, fronts_push, only_push, others_push, owns_none, owns_same}
+use Rattle.dump_workers.proofs.PassLaws.{belong_push, count_push, fronts_push, only_push, others_push, owns_none, owns_same, zero_push}
 use Rattle.dump_workers.proofs.passes.split_seats.Goals as goal
 
 pub workers-preserved : goal.workers-preserved
@@ -32,6 +32,7 @@ workers-preserved c =
       belong = subst (EachBelongs h) (sym pushed) (belong_push h xs x before.belong (rw is record { of_table = subst (λ (t : CellsView). IsOf t c.split-pass.result) c.table.ensures split.of.1; rest = split.rest.1 }));
       others = subst NoneIsFirst (sym pushed) (others_push xs x before.others (rw is passes.not_first));
       passes = let a = ap pass_count pushed ∙ count_push xs x numbers in let b = before.passes in omega (arith, a, b);
+      zero = subst EachAtZero (sym pushed) (zero_push xs x before.zero (c.new.ensures.steps ∙ c.start.ensures));
       fronts = subst (EachHasFront c.args.first.knows.front) (sym pushed) (fronts_push c.args.first.knows.front xs x before.fronts front);
       only = λ s. subst (EachOwnsOnly s) (sym pushed) (only_push s xs x (before.only s) (owns_none s x.pass (rw is passes.own)));
     }

@@ -1,7 +1,7 @@
 use Rattle.std.proofs.Common.{◌≡◌, ◌≤◌, ◌+◌, length}
 use Rattle.elf_sections.specs.Shapes.{SectionsView}
 use Rattle.handle_cache.specs.Handles.{Belongs}
-use Rattle.dump_workers.specs.Passes.{EachHasFront, EachOwnsOnly, NoneIsFirst, pass_count}
+use Rattle.dump_workers.specs.Passes.{EachAtZero, EachHasFront, EachOwnsOnly, NoneIsFirst, pass_count}
 use Rattle.dump_workers.specs.Seats.{EachBelongs}
 use Rattle.dump_workers.proofs.passes.split_seats.Given as goal
 
@@ -20,6 +20,7 @@ invariant-workers l = record {
   belong : EachBelongs l.handle l.seats.items;
   others : NoneIsFirst l.seats.items;
   passes : pass_count l.seats.items + 1 ≡ l.counter;
+  zero : EachAtZero l.seats.items;
   fronts : EachHasFront l.fn.first.knows.front l.seats.items;
   only : (s : SectionsView) → EachOwnsOnly s l.seats.items;
 }

@@ -1,3 +1,4 @@
+pub mod DumpPrinted
 pub mod Ended
 pub mod FirstRefusalLaws
 pub mod LinesSent

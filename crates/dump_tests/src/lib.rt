@@ -9,6 +9,8 @@
 #[cfg(test)]
 mod dumps;
 #[cfg(test)]
+mod exercises;
+#[cfg(test)]
 mod files;
 #[cfg(test)]
 mod gates;

@@ -1,8 +1,8 @@
 -- How the lines of addresses go out, some at a time.
-use Rattle.std.proofs.Common.{◌≡◌, ◌∙◌, ℕ, ◌+◌, ◌<◌, ◌≤◌, List, [], ◌++◌, drop, length, get_or, drop-cons, add-one, Option, None, Result, Ok, Err, refl, sym, ap, append_assoc, subst}
+use Rattle.std.proofs.Common.{◌≡◌, ◌∙◌, ℕ, ◌+◌, ◌<◌, ◌≤◌, List, ◌++◌, drop, length, get_or, drop-cons, add-one, Option, None, Result, Ok, Err, refl, sym, ap, append_assoc, subst}
 use Rattle.std.proofs.lemmas.List.{append-nil, drop_all}
 use Rattle.dw_outside.specs.Gains.{Gains, GainsPart}
-use Rattle.dw_outside.specs.GainsLaws.{Gains-then, GainsPart-then, GainsPart-more, GainsPart-nothing, Gains-nothing}
+use Rattle.dw_outside.specs.GainsLaws.{Gains-then, GainsPart-then, GainsPart-more}
 use Rattle.dw_outside.specs.declared.stops.WriteStop.{WriteStop}
 use Rattle.elf_sections.specs.Shapes.{SectionsView}
 use Rattle.address_lookup.specs.Places.{place_of}

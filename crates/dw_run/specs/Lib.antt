@@ -1,9 +1,11 @@
 pub mod AddressLines
 pub mod Commands
 pub mod CommandTexts
+pub mod DumpTexts
 pub mod FirstRefusal
 pub mod FileRequests
 pub mod Endings
 pub mod Output
 pub mod RefusalLines
 pub mod Parts
+pub mod Queries

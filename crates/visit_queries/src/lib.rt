@@ -21,7 +21,7 @@ mod walk_stop;
 
 pub use file_walk::walk;
 pub use laws::entries_are_seen_up_to_enough;
-pub use named::{NamedVisitor, pick};
+pub use named::{IsNamed, NamedVisitor, pick};
 pub use tag_visitors::{Functions, Types, Variables};
 pub use visitor::{EntryView, Turn, Visitor};
 pub use walk_stop::WalkStop;

@@ -1,5 +1,4 @@
 use Rattle.std.proofs.Common.{Ok, Err, None, arith}
-use Rattle.dw_outside.specs.declared.stops.WriteStop.{WriteStop}
 use Rattle.dw_run.proofs.LinesSent.{lines_sent, lines_cut, kept_sent, kept_cut}
 use Rattle.dw_run.proofs.addresses.print_lines.Goals as goal
 

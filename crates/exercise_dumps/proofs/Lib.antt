@@ -1,0 +1,5 @@
+-- Lemmas on two dumps.
+mod Sums
+mod Seats
+mod Refusals
+mod Generated

@@ -1,5 +1,6 @@
 pub mod DumpPrinted
 pub mod Ended
+pub mod ExerciseEnded
 pub mod FirstRefusalLaws
 pub mod LinesSent
 pub mod ListParts

@@ -2,6 +2,7 @@ pub mod AddressLines
 pub mod Commands
 pub mod CommandTexts
 pub mod DumpTexts
+pub mod ExerciseTexts
 pub mod FirstRefusal
 pub mod FileRequests
 pub mod Endings

@@ -16,6 +16,7 @@ mod addresses;
 mod commands;
 mod dump;
 mod endings;
+mod exercise;
 mod file_command;
 mod laws;
 mod opened;

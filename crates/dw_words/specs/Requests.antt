@@ -1,5 +1,5 @@
 -- What a command line means.
-use Rattle.std.specs.Prelude.{◌≡◌, ℕ, Bool, ◌&&◌, ◌||◌, List, [], ◌∷◌, Option, Some, None, Result, Ok, Err, ⊤}
+use Rattle.std.specs.Prelude.{◌≤◌, ◌≡◌, ℕ, Bool, ◌&&◌, ◌||◌, List, [], ◌∷◌, Option, Some, None, Result, Ok, Err, ⊤}
 use Rattle.std.specs.Prelude.{option_and_then, option_map, unwrap_or, is_some, codes, if◌then◌else◌, nat_le}
 use Rattle.std.specs.Str.{bytes_eq}
 use Rattle.dw_words.specs.GivenWords.{AreFewWorkers, Meaning, Text, meaning}
@@ -127,13 +127,17 @@ request_view (requests.Addresses file addresses) = of_addresses file.now address
 request_view (requests.Query visitor file) = of_query visitor.now file.now
 request_view (requests.Exercise units workers) = of_exercise units workers
 
--- the number of workers of a request is one that words may ask for
-abbrev pub HasFewWorkers : RequestView → Type 0
-HasFewWorkers (of_file command file) = ⊤
-HasFewWorkers (of_dump file workers stats) = AreFewWorkers workers
-HasFewWorkers (of_addresses file addresses) = ⊤
-HasFewWorkers (of_query visitor file) = ⊤
-HasFewWorkers (of_exercise units workers) = AreFewWorkers workers
+-- a number of units that words may ask for
+abbrev pub AreFewUnits : ℕ → Type 0
+AreFewUnits n = (1 ≤ n) × (n ≤ MOST_UNITS)
+
+-- the numbers of units and of workers of a request are such as words may ask for
+abbrev pub IsWithinLimits : RequestView → Type 0
+IsWithinLimits (of_file command file) = ⊤
+IsWithinLimits (of_dump file workers stats) = AreFewWorkers workers
+IsWithinLimits (of_addresses file addresses) = ⊤
+IsWithinLimits (of_query visitor file) = ⊤
+IsWithinLimits (of_exercise units workers) = AreFewUnits units × AreFewWorkers workers
 
 -- the request, or that there is none; want of memory may come at any time
 abbrev pub IsRequest : Result Request WordsRefusal → Option RequestView → Type 0

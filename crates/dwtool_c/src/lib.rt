@@ -1,0 +1,18 @@
+//! The library for callers that are not written in Rattle: exports to C, over the bytes of a file.
+#![tactic(auto)]
+
+mod answers;
+mod commands;
+mod lines;
+mod refusal;
+mod sections;
+mod unit_texts;
+mod units;
+
+pub use answers::{DONE, NONE_SUCH, NO_MEMORY, REFUSED};
+pub use commands::{ABBREV, DUMP, LINES, RANGES, SECTIONS, UNITS};
+pub use lines::{DwtoolLine, dwtool_lines};
+pub use refusal::{DwtoolRefusal, NOTHING, OF_FILE, OF_TABLES, OF_UNIT};
+pub use sections::{DwtoolSection, dwtool_section_name, dwtool_sections};
+pub use unit_texts::dwtool_unit_text;
+pub use units::{DwtoolUnit, dwtool_units};

@@ -1,2 +1,3 @@
 pub mod Lists
 pub mod UnitRows
+pub mod PlaceRows

@@ -57,6 +57,18 @@ abbrev pub Ends : {A : Type 0} → Answer A → ℕ → List A → List A → �
 Ends answer status old new size refusal =
     Meets answer status old new size refusal ⊎ Meets no_memory status old new size refusal
 
+-- The same of a call with two buffers, the second of which gets the items of another answer.
+pub record MeetsBoth {A B : Type 0} (one : Answer A) (two : Answer B) (status : ℕ)
+    (old_one new_one : List A) (size_one : ℕ) (old_two new_two : List B) (size_two : ℕ) (refusal : DwtoolRefusal) : Type 0 where
+  pub first : Meets one status old_one new_one size_one refusal
+  pub front : new_two ≡ fitted two.items old_two
+  pub whole : size_two ≡ length two.items
+
+abbrev pub EndsBoth : {A B : Type 0} → Answer A → Answer B → ℕ → List A → List A → ℕ → List B → List B → ℕ → DwtoolRefusal → Type 0
+EndsBoth one two status old_one new_one size_one old_two new_two size_two refusal =
+    MeetsBoth one two status old_one new_one size_one old_two new_two size_two refusal
+    ⊎ MeetsBoth no_memory no_memory status old_one new_one size_one old_two new_two size_two refusal
+
 -- what is told of a file's sections, or the refusal of its section table
 abbrev pub on_elf : {A : Type 0} → (ElfView → Answer A) → Result ElfView ElfRefusal → Answer A
 on_elf tell (Ok elf) = tell elf

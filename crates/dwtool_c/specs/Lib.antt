@@ -4,3 +4,4 @@ pub mod Sections
 pub mod Units
 pub mod Lines
 pub mod Texts
+pub mod Places

@@ -3,7 +3,7 @@
 ghost use Rattle.std.specs.Prelude.{◌≡◌, [], length, IfOk, List, ℕ, Result};
 ghost use Rattle.dw_fields.specs.declared.fault_code.Fault.{Fault};
 ghost use Rattle.unit_headers.specs.Refusals.{Answers};
-ghost use Rattle.dwtool_c.specs.Answers.{Answer, Ends, IsTold, done, fitted, none_such, on_unit, refused, refused_behind};
+ghost use Rattle.dwtool_c.specs.Answers.{Answer, Ends, IsTold, Meets, done, fitted, no_memory, none_such, on_unit, refused, refused_behind};
 
 use crate::refusal::{DwtoolRefusal, no_refusal, unit_refusal};
 use std::alloc::{AllocError, Global};
@@ -95,6 +95,33 @@ fn fill_front<T: Copy>(items: &[T], out: &mut [T])
 
 /// Hands the caller what was told: the front that fits `out`, the length of the whole, and the
 /// refusal. Answers the status.
+pub(crate) fn hand_told<T: Copy>(
+    told: &Told<T>,
+    out: &mut [T],
+    size: &mut usize,
+    refusal: &mut DwtoolRefusal,
+) -> u8
+    ensures { (answer : Answer T)
+        → IsTold answer told.now.status told.now.items.items told.now.refusal
+        → Meets answer result out.old out.new size.new refusal.new }
+{
+    fill_front(told.items.as_slice(), out);
+    *size = told.items.len();
+    *refusal = told.refusal;
+    told.status
+}
+
+/// Hands the caller nothing, for want of memory. Answers the status.
+pub(crate) fn hand_nothing<T>(out: &mut [T], size: &mut usize, refusal: &mut DwtoolRefusal) -> u8
+    ensures { Meets no_memory result out.old out.new size.new refusal.new }
+{
+    let _ = out;
+    *size = 0;
+    *refusal = no_refusal();
+    NO_MEMORY
+}
+
+/// Hands the caller what was told, or nothing for want of memory. Answers the status.
 pub(crate) fn hand_out<T: Copy>(
     told: Result<Told<T>, AllocError>,
     out: &mut [T],
@@ -106,16 +133,7 @@ pub(crate) fn hand_out<T: Copy>(
         → Ends answer result out.old out.new size.new refusal.new }
 {
     match told {
-        Ok(told) => {
-            fill_front(told.items.as_slice(), out);
-            *size = told.items.len();
-            *refusal = told.refusal;
-            told.status
-        }
-        Err(_) => {
-            *size = 0;
-            *refusal = no_refusal();
-            NO_MEMORY
-        }
+        Ok(told) => hand_told(&told, out, size, refusal),
+        Err(_) => hand_nothing(out, size, refusal),
     }
 }

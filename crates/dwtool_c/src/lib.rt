@@ -4,6 +4,7 @@
 mod answers;
 mod commands;
 mod lines;
+mod places;
 mod refusal;
 mod sections;
 mod unit_texts;
@@ -12,6 +13,7 @@ mod units;
 pub use answers::{DONE, NONE_SUCH, NO_MEMORY, REFUSED};
 pub use commands::{ABBREV, DUMP, LINES, RANGES, SECTIONS, UNITS};
 pub use lines::{DwtoolLine, dwtool_lines};
+pub use places::{DwtoolPlace, NAMED, NO_NAME, NO_PLACE, dwtool_places};
 pub use refusal::{DwtoolRefusal, NOTHING, OF_FILE, OF_TABLES, OF_UNIT};
 pub use sections::{DwtoolSection, dwtool_section_name, dwtool_sections};
 pub use unit_texts::dwtool_unit_text;

@@ -4,7 +4,6 @@ use Rattle.std.proofs.lemmas.Simd.{map-map}
 use Rattle.elf_sections.specs.declared.section.Section.{Section}
 use Rattle.elf_sections.specs.Rows.{SectionRow}
 use Rattle.elf_sections.specs.Shapes.{row}
-use Rattle.dwtool_c.specs.declared.sections.DwtoolSection.{DwtoolSection}
 use Rattle.dwtool_c.specs.Sections.{section_row}
 
 -- the rows of sections are those of their views

@@ -1,6 +1,5 @@
 -- How the rows and the names of places, one after another, are those of all of them.
 use Rattle.std.proofs.Common.{◌≡◌, ◌∙◌, ℕ, ◌+◌, ◌<◌, ◌≤◌, List, [], ◌∷◌, ◌++◌, length, map, drop, get_or, drop-cons, add-one, Option, refl, sym, ap, append_assoc, length-append}
-use Rattle.std.specs.List.{flat_map}
 use Rattle.std.proofs.lemmas.List.{append-nil, drop_all}
 use Rattle.address_lookup.specs.Places.{PlaceView}
 use Rattle.dwtool_c.specs.declared.places.DwtoolPlace.{DwtoolPlace}

@@ -1,5 +1,5 @@
 -- How the rows of units, one after another, make up what is told of all of them.
-use Rattle.std.proofs.Common.{◌≡◌, ◌∙◌, ℕ, zero, suc, ◌+◌, List, [], ◌∷◌, ◌++◌, Result, Ok, Err, refl, sym, ap, append_assoc}
+use Rattle.std.proofs.Common.{◌≡◌, ℕ, suc, ◌+◌, List, [], ◌∷◌, ◌++◌, Result, Ok, Err, sym, ap, append_assoc}
 use Rattle.std.proofs.lemmas.List.{append-nil}
 use Rattle.dw_fields.specs.declared.fault_code.Fault.{Fault}
 use Rattle.unit_headers.specs.declared.header.UnitHeader.{UnitHeader}

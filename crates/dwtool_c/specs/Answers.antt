@@ -57,6 +57,19 @@ abbrev pub Ends : {A : Type 0} → Answer A → ℕ → List A → List A → �
 Ends answer status old new size refusal =
     Meets answer status old new size refusal ⊎ Meets no_memory status old new size refusal
 
+-- A call that fills the buffer as it goes wanted memory: the buffer has the front of some of the items.
+pub record StopsWithin {A : Type 0} (items : List A) (status : ℕ) (old new : List A) (size : ℕ) (refusal : DwtoolRefusal) : Type 0 where
+  pub status_is : status ≡ NO_MEMORY
+  pub part : ℕ
+  pub front : new ≡ fitted (take part items) old
+  pub whole : size ≡ 0
+  pub why : refusal ≡ no_refusal
+
+-- Such a call answered this, or it wanted memory on its way.
+abbrev pub EndsWithin : {A : Type 0} → Answer A → ℕ → List A → List A → ℕ → DwtoolRefusal → Type 0
+EndsWithin answer status old new size refusal =
+    Meets answer status old new size refusal ⊎ StopsWithin answer.items status old new size refusal
+
 -- The same of a call with two buffers, the second of which gets the items of another answer.
 pub record MeetsBoth {A B : Type 0} (one : Answer A) (two : Answer B) (status : ℕ)
     (old_one new_one : List A) (size_one : ℕ) (old_two new_two : List B) (size_two : ℕ) (refusal : DwtoolRefusal) : Type 0 where

@@ -5,3 +5,5 @@ pub mod Units
 pub mod Lines
 pub mod Texts
 pub mod Places
+pub mod Fronts
+pub mod FileTexts

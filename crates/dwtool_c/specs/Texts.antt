@@ -1,5 +1,5 @@
 -- The texts of units and of whole files, by the numbers of commands.
-use Rattle.std.specs.Prelude.{ℕ, ◌==◌, if◌then◌else◌, List, Option, Some, None, option_map}
+use Rattle.std.specs.Prelude.{ℕ, ◌==◌, if◌then◌else◌, List, Option, Some, None}
 use Rattle.dump_workers.specs.UnitDumps.{unit_dump}
 use Rattle.elf_sections.specs.Names.{elf_of}
 use Rattle.elf_sections.specs.Rows.{ElfView}

@@ -80,13 +80,13 @@ pub(crate) fn told_of_unit<T>(
 {
     match read {
         Ok(items) => Ok(Told::done(items)),
-        Err(UnitRefusal::Refused(fault)) => Ok(Told::refused(alloc, unit_refusal(unit, &fault))),
+        Err(UnitRefusal::Refused(fault)) => Ok(Told::refused(alloc, unit_refusal(unit, fault))),
         Err(UnitRefusal::OutOfMemory) => Err(AllocError),
     }
 }
 
 /// Copies the front of the items that fits.
-fn fill_front<T: Copy>(items: &[T], out: &mut [T])
+pub(crate) fn fill_front<T: Copy>(items: &[T], out: &mut [T])
     ensures { out.new ≡ fitted items.now out.old }
 {
     let count = items.len().min(out.len());

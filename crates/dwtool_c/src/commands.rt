@@ -1,6 +1,7 @@
 //! The numbers of commands.
 
 ghost use Rattle.std.specs.Prelude.{◌≡◌};
+ghost use Rattle.dwtool_c.specs.FileTexts.{file_command};
 ghost use Rattle.dwtool_c.specs.Texts.{unit_command};
 
 /// `units`: one line per unit.
@@ -39,5 +40,30 @@ pub(crate) fn unit_command(number: u32) -> Option<UnitCommand>
         LINES => Some(UnitCommand::Lines),
         RANGES => Some(UnitCommand::Ranges),
         _ => None,
+    }
+}
+
+/// A command on a file.
+#[derive(Clone, Copy, Debug, PartialEq, Eq)]
+pub(crate) enum FileCommand {
+    /// The line of each section.
+    Sections,
+    /// All abbreviation tables.
+    Abbrev,
+    /// A command that prints something of each unit.
+    Each(UnitCommand),
+}
+
+/// The command of this number, if there is one.
+pub(crate) fn file_command(number: u32) -> Option<FileCommand>
+    ensures { result ≡ file_command number }
+{
+    match number {
+        SECTIONS => Some(FileCommand::Sections),
+        ABBREV => Some(FileCommand::Abbrev),
+        _ => match unit_command(number) {
+            Some(command) => Some(FileCommand::Each(command)),
+            None => None,
+        },
     }
 }

@@ -165,11 +165,7 @@ struct ToldPlaces {
 
 /// The rows and names of the places of addresses in a file's bytes, or the file's refusal.
 #[tactic(auto, unfolding(crate::specs::Places::place_rows_answer, crate::specs::Places::place_names_answer))]
-fn tell_places(
-    alloc: Global,
-    file: &[u8],
-    addresses: &[u64],
-) -> Result<ToldPlaces, AllocError>
+fn tell_places(alloc: Global, file: &[u8], addresses: &[u64]) -> Result<ToldPlaces, AllocError>
     ensures rows { IfOk result (λ t. IsTold (place_rows_answer addresses.now file.now)
         t.rows.status t.rows.items.items t.rows.refusal) }
     ensures names { IfOk result (λ t. IsTold (place_names_answer addresses.now file.now)

@@ -59,8 +59,8 @@ pub(crate) fn file_refusal(refusal: &ElfRefusal) -> DwtoolRefusal
 }
 
 /// The refusal of a unit.
-pub(crate) fn unit_refusal(unit: u32, fault: &Fault) -> DwtoolRefusal
-    ensures { result ≡ unit_refusal unit fault.now }
+pub(crate) fn unit_refusal(unit: u32, fault: Fault) -> DwtoolRefusal
+    ensures { result ≡ unit_refusal unit fault }
 {
     DwtoolRefusal {
         place: fault.place,
@@ -72,8 +72,8 @@ pub(crate) fn unit_refusal(unit: u32, fault: &Fault) -> DwtoolRefusal
 }
 
 /// The refusal of the abbreviation tables.
-pub(crate) fn tables_refusal(fault: &Fault) -> DwtoolRefusal
-    ensures { result ≡ tables_refusal fault.now }
+pub(crate) fn tables_refusal(fault: Fault) -> DwtoolRefusal
+    ensures { result ≡ tables_refusal fault }
 {
     DwtoolRefusal {
         place: fault.place,

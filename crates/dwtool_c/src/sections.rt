@@ -40,10 +40,7 @@ fn section_row(section: &Section<'_>) -> DwtoolSection
 }
 
 /// The rows of these sections.
-fn section_rows(
-    alloc: Global,
-    sections: &[Section<'_>],
-) -> Result<Vec<DwtoolSection>, AllocError>
+fn section_rows(alloc: Global, sections: &[Section<'_>]) -> Result<Vec<DwtoolSection>, AllocError>
     ensures { IfOk result (λ rows. rows.items
         ≡ map (λ s. section_row (row s)) sections.now) }
 {

@@ -260,5 +260,10 @@ pub extern "C" fn dwtool_unit_text(
     ensures { Ends (unit_text_answer command unit file.now) result text.old text.new
         size.new refusal.new }
 {
-    hand_out(tell_numbered(alloc, command, file, unit), text, size, refusal)
+    hand_out(
+        tell_numbered(alloc, command, file, unit),
+        text,
+        size,
+        refusal,
+    )
 }

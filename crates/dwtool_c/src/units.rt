@@ -138,7 +138,7 @@ fn unit_rows(alloc: Global, index: &UnitIndex<'_>) -> Result<Told<DwtoolUnit>, A
     for unit in 0..index.count() {
         match index.header(unit) {
             Ok(header) => push_row(&mut rows, &header)?,
-            Err(fault) => return Ok(Told::refused_behind(rows, unit_refusal(unit, &fault))),
+            Err(fault) => return Ok(Told::refused_behind(rows, unit_refusal(unit, fault))),
         }
     }
     Ok(Told::done(rows))

@@ -1,4 +1,4 @@
-use Rattle.std.proofs.Common.{◌≡◌, ◌∙◌, ◌+◌, ◌-◌, ap, sym, arith}
+use Rattle.std.proofs.Common.{◌∙◌, ◌+◌, ◌-◌, ap, sym, arith}
 use Rattle.dwtool_c.specs.Answers.{done, refused_behind}
 use Rattle.dwtool_c.specs.Units.{units_in}
 use Rattle.dwtool_c.proofs.UnitRows.{rows_done, rows_next, rows_refused, told_same}

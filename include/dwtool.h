@@ -132,7 +132,13 @@ DWTOOL_SAYS(sizeof(dwtool_place) == 40, "a place has 40 bytes");
 /* Each call fills the front of a buffer, as much as fits, leaves what stands behind that, and sets `*size` or `*count`
  * to the length of the whole, in bytes or in rows; so a call with a buffer of length 0 asks for the length alone. It
  * sets `*refusal`, whose `what` is DWTOOL_NOTHING where nothing is refused. After DWTOOL_NO_MEMORY the buffers are as
- * they were. It takes memory by `malloc` and gives all of it back. */
+ * they were, but that of dwtool_text. It takes memory by `malloc` and gives all of it back. */
+
+/* What a command prints of the file. DWTOOL_REFUSED: the text is that up to the refusal of the section table, of a unit
+ * or of the abbreviation tables. DWTOOL_NONE_SUCH: there is no such command. After DWTOOL_NO_MEMORY the buffer has the
+ * front of some of the text, and `*size` is 0. It takes the memory of one unit, and not that of the whole text. */
+uint8_t dwtool_text(uint32_t command, const uint8_t *file, size_t file_size, uint8_t *text, size_t text_room,
+                    size_t *size, dwtool_refusal *refusal);
 
 /* What a command prints of one unit: DWTOOL_UNITS, DWTOOL_DUMP, DWTOOL_LINES or DWTOOL_RANGES. The texts of the units 0,
  * 1, .. one behind the other are what the program prints of the file, up to the first unit that is refused.

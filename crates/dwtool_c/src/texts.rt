@@ -2,7 +2,6 @@
 
 ghost use Rattle.std.specs.Prelude.{◌≡◌, map, option_map};
 ghost use Rattle.elf_sections.specs.Shapes.{AreShort, row, sections_view};
-ghost use Rattle.entry_tree.specs.Units.{units_of};
 ghost use Rattle.dw_run.specs.Commands.{sections_text, tables_printed};
 ghost use Rattle.dw_run.specs.CommandTexts.{units_printed, whole};
 ghost use Rattle.unit_headers.specs.Headers.{unit_count};
@@ -16,14 +15,13 @@ use crate::answers::{DONE, NO_MEMORY, NONE_SUCH, REFUSED};
 use crate::commands::{FileCommand, UnitCommand, file_command};
 use crate::front::{Put, put_behind};
 use crate::refusal::{DwtoolRefusal, file_refusal, no_refusal, tables_refusal, unit_refusal};
-use crate::unit_texts::append_text;
-use crate::units::read_index;
+use crate::unit_texts::FileUnits;
 use bumpalo::Bump;
 use dw_fields::Fault;
 use elf_sections::{Elf, OpenRefusal, Section, Sections};
 use entry_tree::renew;
 use std::alloc::{AllocError, Global};
-use unit_headers::{UnitIndex, UnitRefusal};
+use unit_headers::UnitRefusal;
 use unit_text::{write_section, write_tables};
 
 /// Puts the lines of sections into the buffer.
@@ -86,21 +84,18 @@ fn put_tables(alloc: Global, section: &[u8], out: &mut [u8]) -> Result<Put, Allo
 fn put_units(
     alloc: Global,
     command: UnitCommand,
-    sections: &Sections<'_>,
-    index: &UnitIndex<'_>,
+    units: &mut FileUnits<'_>,
     out: &mut [u8],
 ) -> Result<Put, AllocError>
-    requires short { AreShort (sections_view sections.now) }
-    requires index { index.now ≡ units_of (sections_view sections.now) }
-    ensures { PutsText result (units_printed (unit_text command (sections_view sections.now)) 0
-        (unit_count index.now.info index.now.order)) out.old out.new }
+    ensures { PutsText result (units_printed (unit_text command units.old) 0
+        (unit_count units.old.info units.old.order)) out.old out.new }
 {
     let mut arena = Bump::new(alloc);
     let mut text = Vec::new(alloc);
     let mut size = 0;
-    'units: for unit in 0..index.count() {
+    'units: for unit in 0..units.count() {
         text.clear();
-        match append_text(alloc, command, &arena, sections, index, unit, &mut text) {
+        match units.append_text(alloc, command, &arena, unit, &mut text) {
             Ok(()) => {}
             Err(UnitRefusal::Refused(fault)) => {
                 return Ok(Put {
@@ -132,8 +127,8 @@ fn put_unit_texts(
     requires { AreShort (sections_view sections.now) }
     ensures { PutsText result (unit_texts command (sections_view sections.now)) out.old out.new }
 {
-    let index = read_index(alloc, sections)?;
-    put_units(alloc, command, sections, &index, out)
+    let mut units = FileUnits::read(alloc, sections)?;
+    put_units(alloc, command, &mut units, out)
 }
 
 /// Puts the text of a command on a file into the buffer.

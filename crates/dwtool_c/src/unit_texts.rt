@@ -2,7 +2,7 @@
 
 ghost use Rattle.std.specs.Prelude.{◌≡◌, ◌<◌, IfOk, map};
 ghost use Rattle.elf_sections.specs.Shapes.{AreShort, sections_view};
-ghost use Rattle.entry_tree.specs.Units.{IsUnitOf, entries_of, facts_of, units_of};
+ghost use Rattle.entry_tree.specs.Units.{IsUnitOf, entries_of, facts_of};
 ghost use Rattle.entry_tree.specs.Views.{entry_view};
 ghost use Rattle.dump_workers.specs.UnitDumps.{unit_dump};
 ghost use Rattle.unit_headers.specs.Headers.{unit_count};
@@ -23,10 +23,11 @@ use dw_fields::Fault;
 use elf_sections::{Elf, OpenRefusal, Sections};
 use entry_tree::{Entry, read_entries, root_facts};
 use form_values::UnitFacts;
-use line_text::write_lines;
+use line_text::{LineTables, write_lines_with};
 use std::alloc::{AllocError, Global};
+use std::marker::Model;
 use unit_headers::{UnitHeader, UnitIndex, UnitRefusal};
-use unit_text::{write_lists, write_unit, write_unit_line};
+use unit_text::{LastLists, write_lists_with, write_unit, write_unit_line};
 
 /// What the first entry of a unit says of it.
 fn read_facts(sections: &Sections<'_>, header: &UnitHeader) -> Result<UnitFacts, Fault>
@@ -55,112 +56,141 @@ fn read_unit<'a, 'f: 'a>(
     read_entries(arena, &mut scanner, header, sections, &mut steps)
 }
 
-/// Appends the line of a unit.
-#[tactic(auto, unfolding(dw_run::specs::Parts::unit_part, dw_run::specs::Parts::part_of))]
-fn append_line(
-    alloc: Global,
-    sections: &Sections<'_>,
-    index: &UnitIndex<'_>,
-    unit: u32,
-    out: &mut Vec<u8>,
-) -> Result<(), UnitRefusal>
-    requires index { index.now ≡ units_of (sections_view sections.now) }
-    requires unit { unit < unit_count index.now.info index.now.order }
-    ensures { Writes result out.old.items out.new.items
-        (unit_part parts.Line (sections_view sections.now) unit) }
-{
-    let header = index.header(unit)?;
-    Ok(write_unit_line(alloc, &header, out)?)
+/// The units of a file, with the line table and the lists that were read last.
+#[derive(Drop)]
+pub(crate) struct FileUnits<'f> {
+    sections: Sections<'f>,
+    index: UnitIndex<'f>,
+    tables: LineTables<'f>,
+    lists: LastLists<'f>,
 }
 
-/// Appends a unit with its entries, which lie in the arena.
-#[tactic(auto, unfolding(dump_workers::specs::UnitDumps::unit_dump))]
-fn append_entries(
-    alloc: Global,
-    arena: &Bump,
-    sections: &Sections<'_>,
-    index: &UnitIndex<'_>,
-    unit: u32,
-    out: &mut Vec<u8>,
-) -> Result<(), UnitRefusal>
-    requires short { AreShort (sections_view sections.now) }
-    requires index { index.now ≡ units_of (sections_view sections.now) }
-    requires unit { unit < unit_count index.now.info index.now.order }
-    ensures { Writes result out.old.items out.new.items
-        (unit_dump (sections_view sections.now) unit) }
-{
-    let header = index.header(unit)?;
-    let facts = read_facts(sections, &header)?;
-    let entries = read_unit(arena, sections, &header)?;
-    write_unit(alloc, &header, entries, sections, &facts, out)
+impl<'f> Model for FileUnits<'f> {
+    ghost use Rattle.std.specs.Prelude.{◌≡◌};
+    ghost use Rattle.elf_sections.specs.Shapes.{AreShort, SectionsView, sections_view};
+    ghost use Rattle.entry_tree.specs.Units.{units_of};
+
+    ghost Value = { SectionsView };
+
+    ghost view = { λ u. sections_view u.sections };
+
+    ghost invariant = { λ u. AreShort (sections_view u.sections)
+        × (u.index ≡ units_of (sections_view u.sections))
+        × (u.tables ≡ sections_view u.sections) × (u.lists ≡ sections_view u.sections) };
 }
 
-/// Appends the line table of a unit.
-#[tactic(auto, unfolding(dw_run::specs::Parts::unit_part, dw_run::specs::Parts::part_of))]
-fn append_lines(
-    alloc: Global,
-    sections: &Sections<'_>,
-    index: &UnitIndex<'_>,
-    unit: u32,
-    out: &mut Vec<u8>,
-) -> Result<(), UnitRefusal>
-    requires short { AreShort (sections_view sections.now) }
-    requires index { index.now ≡ units_of (sections_view sections.now) }
-    requires unit { unit < unit_count index.now.info index.now.order }
-    ensures { Writes result out.old.items out.new.items
-        (unit_part parts.LineTable (sections_view sections.now) unit) }
-{
-    let header = index.header(unit)?;
-    let facts = read_facts(sections, &header)?;
-    write_lines(alloc, sections, &header, &facts, out)
-}
+impl<'f> FileUnits<'f> {
+    /// The units of some sections, of which nothing was read yet.
+    pub(crate) fn read(alloc: Global, sections: &Sections<'f>) -> Result<FileUnits<'f>, AllocError>
+        requires { AreShort (sections_view sections.now) }
+        ensures { IfOk result (λ u. u ≡ sections_view sections.entry.now) }
+    {
+        let index = read_index(alloc, sections)?;
+        Ok(FileUnits {
+            sections: *sections,
+            index,
+            tables: LineTables::new(sections),
+            lists: LastLists::new(sections),
+        })
+    }
 
-/// Appends the range lists and location lists of a unit, whose entries lie in the arena.
-#[tactic(auto, unfolding(dw_run::specs::Parts::unit_part, dw_run::specs::Parts::part_of, dw_run::specs::Parts::unit_of))]
-fn append_lists(
-    alloc: Global,
-    arena: &Bump,
-    sections: &Sections<'_>,
-    index: &UnitIndex<'_>,
-    unit: u32,
-    out: &mut Vec<u8>,
-) -> Result<(), UnitRefusal>
-    requires short { AreShort (sections_view sections.now) }
-    requires index { index.now ≡ units_of (sections_view sections.now) }
-    requires unit { unit < unit_count index.now.info index.now.order }
-    ensures { Writes result out.old.items out.new.items
-        (unit_part parts.Lists (sections_view sections.now) unit) }
-{
-    let header = index.header(unit)?;
-    let facts = read_facts(sections, &header)?;
-    let entries = read_unit(arena, sections, &header)?;
-    write_lists(alloc, sections, &header, &facts, entries, out)
-}
+    /// How many units there are.
+    pub(crate) fn count(&self) -> u32
+        ensures { result ≡ unit_count self.now.info self.now.order }
+    {
+        self.index.count()
+    }
 
-/// Appends what a command prints of a unit. The unit's entries lie in the arena.
-///
-/// # Errors
-/// The first fault of the unit, or want of memory; `out` is then as it was.
-pub(crate) fn append_text(
-    alloc: Global,
-    command: UnitCommand,
-    arena: &Bump,
-    sections: &Sections<'_>,
-    index: &UnitIndex<'_>,
-    unit: u32,
-    out: &mut Vec<u8>,
-) -> Result<(), UnitRefusal>
-    requires short { AreShort (sections_view sections.now) }
-    requires index { index.now ≡ units_of (sections_view sections.now) }
-    requires unit { unit < unit_count index.now.info index.now.order }
-    ensures { Writes result out.old.items out.new.items
-        (unit_text command (sections_view sections.now) unit) }
-{
-    match command {
-        UnitCommand::Units => append_line(alloc, sections, index, unit, out),
-        UnitCommand::Dump => append_entries(alloc, arena, sections, index, unit, out),
-        UnitCommand::Lines => append_lines(alloc, sections, index, unit, out),
-        UnitCommand::Ranges => append_lists(alloc, arena, sections, index, unit, out),
+    /// Appends what a command prints of a unit. The unit's entries lie in the arena.
+    ///
+    /// # Errors
+    /// The first fault of the unit, or want of memory; `out` is then as it was.
+    pub(crate) fn append_text(
+        &mut self,
+        alloc: Global,
+        command: UnitCommand,
+        arena: &Bump,
+        unit: u32,
+        out: &mut Vec<u8>,
+    ) -> Result<(), UnitRefusal>
+        requires { unit < unit_count self.old.info self.old.order }
+        ensures text { Writes result out.old.items out.new.items
+            (unit_text command self.old unit) }
+        ensures same { self.new ≡ self.old }
+    {
+        match command {
+            UnitCommand::Units => self.append_line(alloc, unit, out),
+            UnitCommand::Dump => self.append_entries(alloc, arena, unit, out),
+            UnitCommand::Lines => self.append_lines(alloc, unit, out),
+            UnitCommand::Ranges => self.append_lists(alloc, arena, unit, out),
+        }
+    }
+
+    /// Appends the line of a unit.
+    #[tactic(auto, unfolding(dw_run::specs::Parts::unit_part, dw_run::specs::Parts::part_of))]
+    fn append_line(&self, alloc: Global, unit: u32, out: &mut Vec<u8>) -> Result<(), UnitRefusal>
+        requires { unit < unit_count self.now.info self.now.order }
+        ensures { Writes result out.old.items out.new.items
+            (unit_part parts.Line self.now unit) }
+    {
+        let header = self.index.header(unit)?;
+        Ok(write_unit_line(alloc, &header, out)?)
+    }
+
+    /// Appends a unit with its entries, which lie in the arena.
+    #[tactic(auto, unfolding(dump_workers::specs::UnitDumps::unit_dump))]
+    fn append_entries(
+        &self,
+        alloc: Global,
+        arena: &Bump,
+        unit: u32,
+        out: &mut Vec<u8>,
+    ) -> Result<(), UnitRefusal>
+        requires { unit < unit_count self.now.info self.now.order }
+        ensures { Writes result out.old.items out.new.items (unit_dump self.now unit) }
+    {
+        let header = self.index.header(unit)?;
+        let facts = read_facts(&self.sections, &header)?;
+        let entries = read_unit(arena, &self.sections, &header)?;
+        write_unit(alloc, &header, entries, &self.sections, &facts, out)
+    }
+
+    /// Appends the line table of a unit.
+    #[tactic(auto, unfolding(dw_run::specs::Parts::unit_part, dw_run::specs::Parts::part_of))]
+    fn append_lines(
+        &mut self,
+        alloc: Global,
+        unit: u32,
+        out: &mut Vec<u8>,
+    ) -> Result<(), UnitRefusal>
+        requires { unit < unit_count self.old.info self.old.order }
+        ensures text { Writes result out.old.items out.new.items
+            (unit_part parts.LineTable self.old unit) }
+        ensures same { self.new ≡ self.old }
+    {
+        let header = self.index.header(unit)?;
+        let facts = read_facts(&self.sections, &header)?;
+        write_lines_with(alloc, &mut self.tables, &header, &facts, out)
+    }
+
+    /// Appends the range lists and location lists of a unit, whose entries lie in the arena.
+    #[tactic(auto, unfolding(dw_run::specs::Parts::unit_part, dw_run::specs::Parts::part_of, dw_run::specs::Parts::unit_of))]
+    fn append_lists(
+        &mut self,
+        alloc: Global,
+        arena: &Bump,
+        unit: u32,
+        out: &mut Vec<u8>,
+    ) -> Result<(), UnitRefusal>
+        requires { unit < unit_count self.old.info self.old.order }
+        ensures text { Writes result out.old.items out.new.items
+            (unit_part parts.Lists self.old unit) }
+        ensures same { self.new ≡ self.old }
+    {
+        let header = self.index.header(unit)?;
+        let facts = read_facts(&self.sections, &header)?;
+        let entries = read_unit(arena, &self.sections, &header)?;
+        write_lists_with(alloc, &mut self.lists, &header, &facts, entries, out)
     }
 }
 
@@ -168,20 +198,33 @@ pub(crate) fn append_text(
 fn read_text(
     alloc: Global,
     command: UnitCommand,
-    sections: &Sections<'_>,
-    index: &UnitIndex<'_>,
+    units: &mut FileUnits<'_>,
     unit: u32,
 ) -> Result<Vec<u8>, UnitRefusal>
-    requires short { AreShort (sections_view sections.now) }
-    requires index { index.now ≡ units_of (sections_view sections.now) }
-    requires unit { unit < unit_count index.now.info index.now.order }
-    ensures { Answers (λ v. v.items) result
-        (unit_text command (sections_view sections.now) unit) }
+    requires { unit < unit_count units.old.info units.old.order }
+    ensures { Answers (λ v. v.items) result (unit_text command units.old unit) }
 {
     let arena = Bump::new(alloc);
     let mut text = Vec::new(alloc);
-    append_text(alloc, command, &arena, sections, index, unit, &mut text)?;
+    units.append_text(alloc, command, &arena, unit, &mut text)?;
     Ok(text)
+}
+
+/// What a command prints of the unit of this number, among these.
+fn told_among(
+    alloc: Global,
+    command: UnitCommand,
+    units: &mut FileUnits<'_>,
+    unit: u32,
+) -> Result<Told<u8>, AllocError>
+    ensures { IfOk result (λ t. IsTold (on_unit_numbered (unit_text command) unit units.old)
+        t.status t.items.items t.refusal) }
+{
+    if unit < units.count() {
+        let read = read_text(alloc, command, units, unit);
+        return told_of_unit(alloc, unit, read);
+    }
+    Ok(Told::none_such(alloc))
 }
 
 /// What a command prints of the unit of this number.
@@ -196,12 +239,8 @@ fn told_text(
         (on_unit_numbered (unit_text command) unit (sections_view sections.now))
         t.status t.items.items t.refusal) }
 {
-    let index = read_index(alloc, sections)?;
-    if unit < index.count() {
-        let read = read_text(alloc, command, sections, &index, unit);
-        return told_of_unit(alloc, unit, read);
-    }
-    Ok(Told::none_such(alloc))
+    let mut units = FileUnits::read(alloc, sections)?;
+    told_among(alloc, command, &mut units, unit)
 }
 
 /// What a command prints of a unit of a file's bytes, or the refusal of the file or the unit.

@@ -1,5 +1,4 @@
-use Rattle.std.proofs.Common.{◌-◌}
-use Rattle.elf_sections.specs.Shapes.{sections_view}
+use Rattle.std.proofs.Common.{◌≡◌, ◌-◌}
 use Rattle.unit_headers.specs.Headers.{unit_count}
 use Rattle.dw_run.specs.CommandTexts.{units_printed}
 use Rattle.dwtool_c.specs.Texts.{unit_text}
@@ -7,6 +6,8 @@ use Rattle.dwtool_c.proofs.SoFar.{SoFar}
 use Rattle.dwtool_c.proofs.texts.put_units.Given as goal
 
 abbrev pub invariant-units : goal.invariant-units
-invariant-units l =
-    SoFar (units_printed (unit_text l.command (sections_view l.sections)) 0 (unit_count l.index.info l.index.order))
-    (units_printed (unit_text l.command (sections_view l.sections)) l.unit (l.unit-end - l.unit)) l.fn.out l.out l.size
+invariant-units l = record {
+  same : l.units ≡ l.fn.units;
+  so_far : SoFar (units_printed (unit_text l.command l.fn.units) 0 (unit_count l.fn.units.info l.fn.units.order))
+      (units_printed (unit_text l.command l.fn.units) l.unit (l.unit-end - l.unit)) l.fn.out l.out l.size;
+}

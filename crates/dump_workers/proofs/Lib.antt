@@ -1,3 +1,4 @@
+pub mod AloneLaws
 pub mod EntryCounts
 pub mod UnitKeys
 pub mod RefusalLaws

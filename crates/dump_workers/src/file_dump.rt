@@ -12,6 +12,7 @@ ghost use Rattle.dump_workers.specs.Passes.{EachOwnsOnly, KeepsPasses};
 ghost use Rattle.dump_workers.specs.Seats.{EachBelongs, EachFollows, EachReads, SeatsNoteFile};
 ghost use Rattle.dump_workers.specs.Windows.{StandsBefore};
 
+use crate::alone::dump_alone;
 use crate::ends::{DumpEnd, DumpFault, Whole};
 use crate::printing::print_units;
 use crate::refused::{FileDraws, FileUnits};
@@ -141,6 +142,9 @@ pub fn dump<'f, R: Threads + Sync, G: Gate + Sync, O: Sink, L: Send>(
     ensures noted { OnOk result (RefusesNone (sections_in handle.now)
         → SeatsNoteFile (sections_in handle.now) seats.new.items) }
 {
+    if seats.len() == 1 {
+        return dump_alone(alloc, handle, seats, gate, out);
+    }
     let units = FileUnits::of(handle);
     match Draws::new(alloc, handle.index().count(), MOST_SEATS, &units) {
         Ok((draws, first)) => dump_windows(rt, alloc, handle, &draws, first, seats, gate, out),

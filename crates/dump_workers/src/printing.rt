@@ -37,7 +37,7 @@ fn find_reading(readings: &[Reading], unit: u32) -> &UnitRead
 ///
 /// # Errors
 /// Those of the sink.
-fn print_text<O: Sink>(text: &[u8], out: &mut O) -> Result<(), DumpFault>
+pub(crate) fn print_text<O: Sink>(text: &[u8], out: &mut O) -> Result<(), DumpFault>
     ensures whole { OnOk result (Gains (O.held out.old) (O.held out.new) text.now) }
     ensures part { OnErr result (GainsPart (O.held out.old) (O.held out.new) text.now) }
     ensures cause { HasCause dump_faults.WriteFault (O.faults out.old) (O.faults out.new) result }

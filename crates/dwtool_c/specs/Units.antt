@@ -57,12 +57,12 @@ unit_row header = record {
 }
 
 -- a row, and what is told of the units behind it
-abbrev pub before : DwtoolUnit → Answer DwtoolUnit → Answer DwtoolUnit
-before row others = record { status = others.status; items = row ∷ others.items; refusal = others.refusal }
+abbrev pub row_before : DwtoolUnit → Answer DwtoolUnit → Answer DwtoolUnit
+row_before row others = record { status = others.status; items = row ∷ others.items; refusal = others.refusal }
 
 -- the row of a unit and those of the units behind it, or its refusal alone
 abbrev pub unit_told : ℕ → Result UnitHeader Fault → Answer DwtoolUnit → Answer DwtoolUnit
-unit_told unit (Ok header) others = before (unit_row header) others
+unit_told unit (Ok header) others = row_before (unit_row header) others
 unit_told unit (Err f) others = refused_behind [] (unit_refusal unit f)
 
 -- the rows of so many units from one on, up to the first that is refused; its refusal ends them

@@ -110,12 +110,6 @@ fn section_named(refusal: &ElfRefusal) -> u64
         ElfRefusal::SectionBounds(section) => *section,
         ElfRefusal::Compressed(section) => *section,
         ElfRefusal::NameOutside(section) => *section,
-        ElfRefusal::NotElf => 0,
-        ElfRefusal::ElfClass => 0,
-        ElfRefusal::ElfData => 0,
-        ElfRefusal::HeaderShort => 0,
-        ElfRefusal::SectionTable => 0,
-        ElfRefusal::Relocatable => 0,
-        ElfRefusal::FileLimit => 0,
+        _ => 0,
     }
 }

@@ -36,4 +36,5 @@ pub use endings::RunEnd;
 pub use laws::texts_before_the_first_refusal;
 pub use parts::{Part, append_part};
 pub use program::run;
+pub use refusal_lines::file_number;
 pub use unit_reader::UnitReader;

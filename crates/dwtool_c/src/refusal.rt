@@ -1,10 +1,10 @@
 //! Refusals as numbers.
 
 ghost use Rattle.std.specs.Prelude.{◌≡◌};
-ghost use Rattle.dw_run.specs.RefusalLines.{file_number};
 ghost use Rattle.dwtool_c.specs.Refusals.{file_refusal, no_refusal, section_named, tables_refusal, unit_refusal};
 
 use dw_fields::Fault;
+use dw_run::file_number;
 use elf_sections::ElfRefusal;
 
 /// Nothing is refused.
@@ -53,7 +53,7 @@ pub(crate) fn file_refusal(refusal: &ElfRefusal) -> DwtoolRefusal
         place: 0,
         section: section_named(refusal),
         unit: 0,
-        number: file_number(refusal),
+        number: file_number(refusal) as u16,
         what: OF_FILE,
     }
 }
@@ -81,24 +81,6 @@ pub(crate) fn tables_refusal(fault: Fault) -> DwtoolRefusal
         unit: 0,
         number: u16::from(fault.code.number()),
         what: OF_TABLES,
-    }
-}
-
-/// The number of a file's refusal.
-fn file_number(refusal: &ElfRefusal) -> u16
-    ensures { result ≡ file_number refusal.now }
-{
-    match refusal {
-        ElfRefusal::NotElf => 1,
-        ElfRefusal::ElfClass => 2,
-        ElfRefusal::ElfData => 3,
-        ElfRefusal::HeaderShort => 4,
-        ElfRefusal::SectionTable => 5,
-        ElfRefusal::SectionBounds(_) => 6,
-        ElfRefusal::Compressed(_) => 7,
-        ElfRefusal::Relocatable => 8,
-        ElfRefusal::NameOutside(_) => 9,
-        ElfRefusal::FileLimit => 10,
     }
 }
 

@@ -3,3 +3,4 @@ pub mod FirstRefusalLaws
 pub mod LinesSent
 pub mod SectionsText
 pub mod UnitsPrinted
+pub mod Walking

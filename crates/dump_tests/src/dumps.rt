@@ -1,108 +1,93 @@
-//! Dumps with one seat, with two, and with four.
+//! Dumps with several numbers of workers.
 
-use crate::files::{FIRST_TEXT, SECOND_REFUSED, THREE_TEXTS, THREE_UNITS, file_of};
-use crate::seats::{Ended, check_dump};
-use abbrev_decl::Steps;
-use dump_workers::DumpSeat;
+use crate::files::{FIRST_TEXT, THREE_TEXTS, file_of, texts_of};
+use crate::gates::MeetingGate;
+use crate::seats::{Ended, check_dump, check_file};
+use dump_workers::split_seats;
 use handle_cache::Handle;
 use std::test::Fail;
 
 #[test]
-fn one_seat_writes_all_units(rt: HostRuntime) -> Result<(), Fail> {
+fn any_number_of_workers_writes_the_same(rt: HostRuntime) -> Result<(), Fail> {
     let alloc = rt.alloc();
-    let file = file_of(alloc, &THREE_UNITS)?;
-    let (handle, first) = Handle::open(alloc, file.as_slice(), 1)?;
-    let mut seats = Vec::new(alloc);
-    seats.push(DumpSeat::new(alloc, first, Steps::start(())))?;
-    check_dump(
-        &rt,
-        alloc,
-        &handle,
-        &mut seats,
-        THREE_TEXTS,
-        Ended::Whole(3, 3, 1),
-    );
-    Ok(())
+    let file = file_of(alloc, 3, &[])?;
+    // eight words for each unit, and one declaration
+    let ended = Ended::Whole(3, 3, 25);
+    check_file(&rt, alloc, file.as_slice(), 1, THREE_TEXTS, ended)?;
+    check_file(&rt, alloc, file.as_slice(), 2, THREE_TEXTS, ended)?;
+    check_file(&rt, alloc, file.as_slice(), 7, THREE_TEXTS, ended)?;
+    check_file(&rt, alloc, file.as_slice(), 64, THREE_TEXTS, ended)
 }
 
 #[test]
-fn two_seats_write_the_same(rt: HostRuntime) -> Result<(), Fail> {
+fn any_number_of_workers_stops_at_the_first_refused_unit(rt: HostRuntime) -> Result<(), Fail> {
     let alloc = rt.alloc();
-    let file = file_of(alloc, &THREE_UNITS)?;
-    let (handle, mut first) = Handle::open(alloc, file.as_slice(), 2)?;
-    let second = handle.table().split(&mut first);
-    let mut seats = Vec::new(alloc);
-    seats.push(DumpSeat::new(alloc, first, Steps::start(())))?;
-    seats.push(DumpSeat::new(alloc, second, Steps::start(())))?;
-    check_dump(
+    let file = file_of(alloc, 3, &[1, 2])?;
+    check_file(
         &rt,
         alloc,
-        &handle,
-        &mut seats,
-        THREE_TEXTS,
-        Ended::Whole(3, 3, 2),
-    );
-    Ok(())
-}
-
-#[test]
-fn more_seats_than_units_write_the_same(rt: HostRuntime) -> Result<(), Fail> {
-    let alloc = rt.alloc();
-    let file = file_of(alloc, &THREE_UNITS)?;
-    let (handle, mut first) = Handle::open(alloc, file.as_slice(), 4)?;
-    let second = handle.table().split(&mut first);
-    let third = handle.table().split(&mut first);
-    let fourth = handle.table().split(&mut first);
-    let mut seats = Vec::new(alloc);
-    seats.push(DumpSeat::new(alloc, first, Steps::start(())))?;
-    seats.push(DumpSeat::new(alloc, second, Steps::start(())))?;
-    seats.push(DumpSeat::new(alloc, third, Steps::start(())))?;
-    seats.push(DumpSeat::new(alloc, fourth, Steps::start(())))?;
-    check_dump(
-        &rt,
-        alloc,
-        &handle,
-        &mut seats,
-        THREE_TEXTS,
-        Ended::Whole(3, 3, 4),
-    );
-    Ok(())
-}
-
-#[test]
-fn one_seat_stops_at_a_refused_unit(rt: HostRuntime) -> Result<(), Fail> {
-    let alloc = rt.alloc();
-    let file = file_of(alloc, &SECOND_REFUSED)?;
-    let (handle, first) = Handle::open(alloc, file.as_slice(), 1)?;
-    let mut seats = Vec::new(alloc);
-    seats.push(DumpSeat::new(alloc, first, Steps::start(())))?;
-    check_dump(
-        &rt,
-        alloc,
-        &handle,
-        &mut seats,
+        file.as_slice(),
+        1,
         FIRST_TEXT,
         Ended::Refused(1),
-    );
-    Ok(())
+    )?;
+    check_file(
+        &rt,
+        alloc,
+        file.as_slice(),
+        2,
+        FIRST_TEXT,
+        Ended::Refused(1),
+    )?;
+    check_file(
+        &rt,
+        alloc,
+        file.as_slice(),
+        64,
+        FIRST_TEXT,
+        Ended::Refused(1),
+    )
 }
 
 #[test]
-fn two_seats_stop_at_the_same_unit(rt: HostRuntime) -> Result<(), Fail> {
+fn a_file_without_units_is_dumped(rt: HostRuntime) -> Result<(), Fail> {
     let alloc = rt.alloc();
-    let file = file_of(alloc, &SECOND_REFUSED)?;
-    let (handle, mut first) = Handle::open(alloc, file.as_slice(), 2)?;
-    let second = handle.table().split(&mut first);
-    let mut seats = Vec::new(alloc);
-    seats.push(DumpSeat::new(alloc, first, Steps::start(())))?;
-    seats.push(DumpSeat::new(alloc, second, Steps::start(())))?;
+    let file = file_of(alloc, 0, &[])?;
+    check_file(&rt, alloc, file.as_slice(), 1, b"", Ended::Whole(0, 0, 0))?;
+    check_file(&rt, alloc, file.as_slice(), 7, b"", Ended::Whole(0, 0, 0))
+}
+
+#[test]
+fn units_stand_in_two_windows(rt: HostRuntime) -> Result<(), Fail> {
+    let alloc = rt.alloc();
+    let file = file_of(alloc, 300, &[])?;
+    let text = texts_of(alloc, 300)?;
+    let ended = Ended::Whole(300, 300, 2401);
+    check_file(&rt, alloc, file.as_slice(), 4, text.as_slice(), ended)?;
+    let file = file_of(alloc, 300, &[270, 299])?;
+    let text = texts_of(alloc, 270)?;
+    let ended = Ended::Refused(270);
+    check_file(&rt, alloc, file.as_slice(), 1, text.as_slice(), ended)?;
+    check_file(&rt, alloc, file.as_slice(), 4, text.as_slice(), ended)
+}
+
+#[test]
+fn two_workers_are_inside_at_once(rt: HostRuntime) -> Result<(), Fail> {
+    let alloc = rt.alloc();
+    let file = file_of(alloc, 4, &[])?;
+    let text = texts_of(alloc, 4)?;
+    let (handle, first) = Handle::open(alloc, file.as_slice(), 2)?;
+    let mut seats = split_seats(alloc, &handle, first, 2)?;
+    let gate = MeetingGate::new();
     check_dump(
         &rt,
         alloc,
         &handle,
         &mut seats,
-        FIRST_TEXT,
-        Ended::Refused(1),
+        &gate,
+        text.as_slice(),
+        None,
     );
+    assert_eq!(rt; gate.most(), 2);
     Ok(())
 }

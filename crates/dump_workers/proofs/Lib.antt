@@ -9,3 +9,5 @@ pub mod GatheringLaws
 pub mod WindowLaws
 pub mod PrintLemmas
 pub mod WindowSums
+pub mod KeyLists
+pub mod PassLaws

@@ -1,18 +1,16 @@
 -- Readings that are looked through for one unit, and the entries of units that were printed.
-use Rattle.std.specs.Prelude.{◌≡◌, ℕ, suc, ◌+◌, ◌*◌, ◌≤◌, ◌<◌, List, [], ◌∷◌, length, drop, get_or, Result, Err}
-use Rattle.std.proofs.Common.{arith, sym, ap, ◌∙◌, add-one, drop-cons}
+use Rattle.std.specs.Prelude.{◌≡◌, ℕ, suc, ◌+◌, ◌≤◌, ◌<◌, List, [], ◌∷◌, length, drop, get_or, Result, Err}
+use Rattle.std.proofs.Common.{arith, sym, ap, ◌∙◌, ⊎_elim, add-one, drop-cons}
+use Rattle.std.proofs.lemmas.Bool.{cases_lt}
 use Rattle.std.proofs.lemmas.List.{drop_all}
 use Rattle.dw_outside.specs.Faults.{HasCause, Rose-earlier}
 use Rattle.elf_sections.specs.Shapes.{SectionsView}
 use Rattle.unit_draws.specs.Seats.{occurrences}
-use Rattle.unit_draws.specs.declared.windows.TheConstants.{WINDOW}
 use Rattle.unit_draws.proofs.Occurrences.{occurrences-append, occurrences-nil, occurrences_other}
 use Rattle.dump_workers.specs.declared.reading.Reading.{Reading}
-use Rattle.unit_headers.specs.Headers.{unit_count}
 use Rattle.dump_workers.specs.declared.ends.DumpFault.{DumpFault}
 use Rattle.dump_workers.specs.Readings.{units_read}
 use Rattle.dump_workers.specs.UnitDumps.{entries_from, entry_count}
-use Rattle.dump_workers.specs.Windows.{ReadsWindow}
 use Rattle.dump_workers.proofs.DumpLaws.{entries_done, entries_next}
 
 -- the readings that are left begin with this one
@@ -30,6 +28,13 @@ passed_over u rs i n r inside is isnt before =
 -- none is left
 pub none_found : (u : ℕ) (rs : List Reading) (i n : ℕ) → length rs ≤ i → occurrences u (units_read (drop i rs)) ≡ n → n ≡ 0
 none_found u rs i n all left = sym left ∙ ap (λ (l : List Reading). occurrences u (units_read l)) (drop_all i rs all) ∙ occurrences-nil u
+
+-- one is left
+pub one_left : (u : ℕ) (rs : List Reading) (i : ℕ) → 0 < occurrences u (units_read rs) → occurrences u (units_read (drop i rs)) ≡ occurrences u (units_read rs) → i < length rs
+one_left u rs i some left =
+    ⊎_elim (λ (low : i < length rs). low)
+    (λ (all : length rs ≤ i). absurd (let none : occurrences u (units_read rs) ≡ 0 = none_found u rs i (occurrences u (units_read rs)) all left in omega (arith, some, none)))
+    (cases_lt i (length rs))
 
 -- # Entries
 
@@ -52,13 +57,6 @@ entries_all s unit m entries total none sum =
     let done : a ≡ 0 = entries_done s unit m none in
     let all : entries + a ≡ total = sum in
     let goal : entries ≡ total = omega arith in goal
-
--- each unit of the window was read
-pub was_read : {P : Type 0} (s : SectionsView) (window unit start end : ℕ) (rs : List Reading) → WINDOW * window ≡ start → start ≤ unit → unit < end → end ≤ WINDOW * (window + 1)
-    → end ≤ unit_count s.info s.order → ReadsWindow s window rs → occurrences unit (units_read rs) ≡ 0 → P
-was_read s window unit start end rs from low inside below counted reads none =
-    let once = reads.once unit (omega arith) (omega arith) (omega arith) in
-    absurd (omega (arith, once, none))
 
 -- # Causes
 

@@ -9,6 +9,7 @@ use Rattle.dump_workers.specs.declared.ends.DumpEnd.{DumpEnd}
 use Rattle.dump_workers.specs.declared.ends.DumpEnd.TheVariants.{Whole, Refused}
 use Rattle.dump_workers.specs.declared.ends.DumpFault.{DumpFault}
 use Rattle.dump_workers.specs.declared.ends.RefusedUnit.{RefusedUnit}
+use Rattle.dump_workers.specs.FileKeys.{RefusesNone}
 use Rattle.dump_workers.specs.UnitDumps.{unit_dump, file_entries}
 
 -- the texts, and the unit that ends them, where one is refused
@@ -52,3 +53,8 @@ abbrev pub CountsWhole : SectionsView → ℕ → DumpEnd → Type 0
 CountsWhole s workers (Whole w) =
     (w.units ≡ unit_count s.info s.order) × (w.entries ≡ file_entries s) × (w.workers ≡ workers)
 CountsWhole s workers (Refused unit fault) = Unit {0}
+
+-- a whole dump has refused no unit
+abbrev pub WholeRefusesNone : SectionsView → DumpEnd → Type 0
+WholeRefusesNone s (Whole w) = RefusesNone s
+WholeRefusesNone s (Refused unit fault) = Unit {0}

@@ -1,6 +1,9 @@
 pub mod UnitDumps
-pub mod Dumps
 pub mod FileKeys
+pub mod TableKeys
+pub mod Ends
+pub mod Dumps
 pub mod Readings
 pub mod Seats
+pub mod Passes
 pub mod Windows

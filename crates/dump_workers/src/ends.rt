@@ -3,6 +3,7 @@
 ghost use Rattle.std.specs.Prelude.{◌≡◌};
 
 use dw_fields::Fault;
+use std::marker::Model;
 
 /// What a dump of all units tells. Only [`crate::dump`] makes one.
 #[derive(Debug, Drop)]
@@ -10,6 +11,14 @@ pub struct Whole {
     pub(crate) units: u32,
     pub(crate) entries: u64,
     pub(crate) workers: u32,
+}
+
+impl Model for Whole {
+    ghost use Rattle.dump_workers.specs.Ends.{WholeView};
+
+    ghost Value = { WholeView };
+
+    ghost view = { λ w. record { units = w.units; entries = w.entries; workers = w.workers } };
 }
 
 impl Whole {
@@ -42,6 +51,19 @@ pub struct Published {
     pub(crate) units: u32,
     pub(crate) entries: u64,
     pub(crate) workers: u32,
+}
+
+impl Model for Published {
+    ghost use Rattle.dump_workers.specs.Ends.{PublishedView};
+
+    ghost Value = { PublishedView };
+
+    ghost view = { λ p. record {
+      number = p.number;
+      units = p.units;
+      entries = p.entries;
+      workers = p.workers;
+    } };
 }
 
 impl Published {

@@ -6,8 +6,9 @@ ghost use Rattle.unit_headers.specs.Headers.{unit_count};
 ghost use Rattle.handle_cache.specs.Handles.{sections_in};
 ghost use Rattle.dump_workers.specs.declared.ends.DumpFault.TheVariants as dump_faults;
 ghost use Rattle.dump_workers.specs.declared.serving.TheConstants.{MOST_WORKERS};
-ghost use Rattle.dump_workers.specs.Dumps.{CountsWhole, Ends, dump_of};
+ghost use Rattle.dump_workers.specs.Dumps.{CountsWhole, Ends, WholeRefusesNone, dump_of};
 ghost use Rattle.dump_workers.specs.FileKeys.{RefusesNone};
+ghost use Rattle.dump_workers.specs.Passes.{EachOwnsOnly, KeepsPasses};
 ghost use Rattle.dump_workers.specs.Seats.{EachBelongs, EachFollows, EachReads, SeatsNoteFile};
 ghost use Rattle.dump_workers.specs.Windows.{StandsBefore};
 
@@ -121,13 +122,20 @@ pub fn dump<'f, R: Threads + Sync, G: Gate + Sync, O: Sink, L: Send>(
     ensures whole { IfOk result
         (CountsWhole (sections_in handle.now) (length seats.old.items)) }
     ensures cause { HasCause dump_faults.WriteFault (O.faults out.old) (O.faults out.new) result }
+    ensures none { IfOk result (WholeRefusesNone (sections_in handle.now)) }
 
     // the passes stay with the table, and their fronts only grow
     ensures follow { EachFollows seats.old.items seats.new.items }
+    ensures belong { EachBelongs handle.now seats.new.items }
+    ensures passes { KeepsPasses seats.old.items seats.new.items }
+    ensures size { length seats.new.items ≡ length seats.old.items }
 
     // what the table gained, where no unit is refused
     ensures reads { OnOk result (EachReads (sections_in handle.now) seats.old.items
         seats.new.items) }
+    ensures only { OnOk result (RefusesNone (sections_in handle.now)
+        → EachOwnsOnly (sections_in handle.now) seats.old.items
+        → EachOwnsOnly (sections_in handle.now) seats.new.items) }
     ensures noted { OnOk result (RefusesNone (sections_in handle.now)
         → SeatsNoteFile (sections_in handle.now) seats.new.items) }
 {

@@ -10,6 +10,8 @@
 mod ends;
 mod file_dump;
 mod hands;
+mod laws;
+mod passes;
 mod printing;
 mod publish;
 mod reading;
@@ -21,5 +23,8 @@ mod worker;
 
 pub use ends::{DumpEnd, DumpFault, Published, RefusedUnit, Whole};
 pub use file_dump::dump;
+pub use laws::table_keys_are_the_files_keys;
+pub use passes::{join_seats, split_seats};
 pub use publish::published;
 pub use seat::DumpSeat;
+pub use serving::MOST_WORKERS;

@@ -1,6 +1,6 @@
 //! The texts of a window's units, in the units' order, into a sink.
 
-ghost use Rattle.std.specs.Prelude.{◌≡◌, ◌<◌, ◌≤◌, ◌+◌, ◌*◌, ◌-◌, ◌^◌, ℕ, Ok, None, IfSome, IfNone, OnErr, OnOk, All, length};
+ghost use Rattle.std.specs.Prelude.{◌≡◌, ◌<◌, ◌≤◌, ◌+◌, ◌*◌, ◌-◌, ◌^◌, ℕ, Ok, None, OnErr, OnOk, All};
 ghost use Rattle.dw_outside.specs.Faults.{HasCause};
 ghost use Rattle.dw_outside.specs.Gains.{Gains, GainsPart};
 ghost use Rattle.elf_sections.specs.Shapes.{SectionsView};
@@ -21,17 +21,16 @@ use dw_outside::{Sink, WriteStop, write_all};
 use handle_cache::Handle;
 
 /// What was read of a unit: the first reading that is of it.
-fn find_reading(readings: &[Reading], unit: u32) -> Option<&UnitRead>
+fn find_reading(readings: &[Reading], unit: u32) -> &UnitRead
+    requires some { 0 < occurrences unit (units_read readings.now) }
     ensures found { (s : SectionsView) (window : ℕ) → All (IsReading s window) readings.now
-        → IfSome result (λ read. IsRead s unit read.now) }
-    ensures none { IfNone result (occurrences unit (units_read readings.now) ≡ 0) }
+        → IsRead s unit result.now }
 {
-    for reading in readings {
-        if reading.unit == unit {
-            return Some(&reading.read);
-        }
+    let mut place = 0;
+    'readings: while readings[place].unit != unit {
+        place += 1;
     }
-    None
+    &readings[place].read
 }
 
 /// Writes the text of a unit.
@@ -79,10 +78,7 @@ pub(crate) fn print_units<O: Sink>(
     ensures cause { HasCause dump_faults.WriteFault (O.faults out.old) (O.faults out.new) result }
 {
     'units: for unit in start..end {
-        let Some(read) = find_reading(readings, unit) else {
-            return Ok(None);
-        };
-        match read {
+        match find_reading(readings, unit) {
             UnitRead::Whole {
                 text,
                 entries: count,

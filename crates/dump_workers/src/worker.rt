@@ -69,11 +69,12 @@ fn work_window<'f, G: Gate, L>(
     let mut readings = Vec::new(alloc);
     'units: while let Some(unit) = draws.draw(seat, window) {
         gate.enter(worker, unit);
-        let reading = match read_unit(alloc, &arena, handle, pass, unit, steps) {
+        let read = read_unit(alloc, &arena, handle, pass, unit, steps);
+        gate.leave(worker, unit);
+        let reading = match read {
             Ok(reading) => reading,
             Err(_) => return Err(AllocError),
         };
-        gate.leave(worker, unit);
         match add_reading(&mut readings, reading) {
             Ok(()) => {}
             Err(_) => return Err(AllocError),

@@ -4,10 +4,12 @@ use Rattle.std.specs.List.{concat, range_with_len}
 use Rattle.elf_sections.specs.Shapes.{SectionsView}
 use Rattle.unit_headers.specs.Headers.{unit_count}
 use Rattle.unit_text.specs.Pieces.{Text}
+use Rattle.dump_workers.specs.UnitDumps.{unit_dump}
 use Rattle.dw_run.specs.declared.refusals.Refusal.{Refusal}
 use Rattle.dw_run.specs.declared.refusals.Refusal.TheVariants as refusals
 use Rattle.dw_run.specs.declared.parts.Part.{Part}
 use Rattle.dw_run.specs.CommandTexts.{CommandText, before, unit_printed, units_printed}
+use Rattle.dw_run.specs.DumpTexts.{units_dumped}
 use Rattle.dw_run.specs.FirstRefusal.{EndsAt, TextsBeforeRefusal}
 use Rattle.dw_run.specs.Parts.{unit_part, part_of_units}
 
@@ -97,3 +99,8 @@ texts_only text all printed law =
 pub part_before : (part : Part) (s : SectionsView) → TextsBeforeRefusal (unit_part part s) (unit_count s.info s.order) (part_of_units part s)
 unfolding part_of_units
 part_before part s = texts_before (unit_part part s) (unit_count s.info s.order)
+
+-- and so is a dump
+pub dump_before : (s : SectionsView) → TextsBeforeRefusal (unit_dump s) (unit_count s.info s.order) (units_dumped s)
+unfolding units_dumped
+dump_before s = texts_before (unit_dump s) (unit_count s.info s.order)

@@ -2,6 +2,10 @@
 use Rattle.std.specs.Prelude.{◌≡◌, ℕ, ◌<◌, ◌≤◌, ◌⊎◌, List, [], ◌∷◌, ◌++◌, Option, codes}
 use Rattle.dw_outside.specs.Faults.{Rose}
 use Rattle.dw_outside.specs.Gains.{Gains, GainsPart}
+use Rattle.dw_outside.specs.declared.stops.ReadStop.{ReadStop}
+use Rattle.dw_outside.specs.declared.stops.ReadStop.TheVariants as read_stops
+use Rattle.dw_outside.specs.declared.stops.WriteStop.{WriteStop}
+use Rattle.dw_outside.specs.declared.stops.WriteStop.TheVariants as write_stops
 use Rattle.dw_run.specs.declared.refusals.Refusal.{Refusal}
 use Rattle.dw_run.specs.RefusalLines.{refusal_line}
 
@@ -41,3 +45,13 @@ pub record EndsRefused (refusal : Refusal) (status : ℕ)
   pub part : PartOfLine (refusal_line refusal) err0 err1
   pub failed : status ≡ 4 → Rose faults0 faults1
   pub later : faults0 ≤ faults1
+
+-- the file could not be read: the line that speaks of the source, or of memory
+abbrev pub EndsUnread : ReadStop → ℕ → Option (List ℕ) → Option (List ℕ) → ℕ → ℕ → Type 0
+EndsUnread read_stops.Failed status err0 err1 faults0 faults1 = EndsWith unread_line 3 status err0 err1 faults0 faults1
+EndsUnread read_stops.OutOfMemory status err0 err1 faults0 faults1 = EndsWith no_memory_line 5 status err0 err1 faults0 faults1
+
+-- a text was stopped: nothing more is written where the sink failed, or the line that memory was wanting
+abbrev pub EndsStopped : WriteStop → ℕ → Option (List ℕ) → Option (List ℕ) → ℕ → ℕ → Type 0
+EndsStopped write_stops.Failed status err0 err1 faults0 faults1 = (status ≡ 4) × (err1 ≡ err0) × (faults1 ≡ faults0)
+EndsStopped write_stops.OutOfMemory status err0 err1 faults0 faults1 = EndsWith no_memory_line 5 status err0 err1 faults0 faults1

@@ -1,6 +1,7 @@
 pub mod AddressLines
 pub mod Commands
 pub mod CommandTexts
+pub mod DumpTexts
 pub mod FirstRefusal
 pub mod FileRequests
 pub mod Endings

@@ -1,11 +1,12 @@
--- What the top call gives: the status, the bytes on standard output and the line on standard error, for
--- words and for what each name holds.
-use Rattle.std.specs.Prelude.{◌≡◌, ℕ, ◌<◌, ◌≤◌, ◌⊎◌, List, [], Option, Some, None, IfSome, Result, Ok, Err, option_map}
+-- What the top call gives: the status, the bytes on standard output, the line on standard error and what a whole dump
+-- tells, for words and for what each name holds.
+use Rattle.std.specs.Prelude.{◌≡◌, ℕ, zero, suc, ◌<◌, ◌≤◌, ◌⊎◌, List, [], Option, Some, None, IfSome, Result, Ok, Err, option_map}
 use Rattle.dw_outside.specs.Faults.{Rose}
 use Rattle.dw_outside.specs.Gains.{Gains, GainsPart}
 use Rattle.elf_sections.specs.Names.{elf_of}
 use Rattle.elf_sections.specs.declared.refusals.ElfRefusal.{ElfRefusal}
 use Rattle.elf_sections.specs.Rows.{ElfView}
+use Rattle.dump_workers.specs.Ends.{PublishedView}
 use Rattle.visit_queries.specs.Named.{Named}
 use Rattle.dw_run.specs.declared.refusals.Refusal.{Refusal}
 use Rattle.dw_run.specs.declared.refusals.Refusal.TheVariants as refusals
@@ -18,6 +19,7 @@ pub record Output : Type 0 where
   pub status : ℕ
   pub out : List ℕ
   pub err : List ℕ
+  pub published : Option PublishedView
 
 -- a command's text on the sections of a file, or the refusal of its section table
 abbrev pub text_of_table : (ElfView → CommandText) → Result ElfView ElfRefusal → CommandText
@@ -28,6 +30,20 @@ text_of_table text (Err refusal) = record { text = []; refusal = Some (refusals.
 unfoldable pub text_of_file : (ElfView → CommandText) → List ℕ → CommandText
 text_of_file text file = text_of_table text (elf_of file)
 
+-- what is told of a file: nothing where its section table is refused
+abbrev pub tells_of_table : (ElfView → PublishedView) → Result ElfView ElfRefusal → Option PublishedView
+tells_of_table tells (Ok elf) = Some (tells elf)
+tells_of_table tells (Err refusal) = None
+
+unfoldable pub tells_of_file : Option (ElfView → PublishedView) → List ℕ → Option PublishedView
+tells_of_file None file = None
+tells_of_file (Some tells) file = tells_of_table tells (elf_of file)
+
+-- what is told where nothing is refused
+abbrev pub told_of : Option Refusal → Option PublishedView → Option PublishedView
+told_of None tells = tells
+told_of (Some refusal) tells = None
+
 abbrev pub status_of : Option Refusal → ℕ
 status_of None = 0
 status_of (Some refusal) = 1
@@ -36,11 +52,12 @@ abbrev pub err_of : Option Refusal → List ℕ
 err_of None = []
 err_of (Some refusal) = refusal_line refusal
 
-abbrev pub output_of_text : CommandText → Output
-output_of_text text = record {
+abbrev pub output_of_text : CommandText → Option PublishedView → Output
+output_of_text text tells = record {
   status = status_of text.refusal;
   out = text.text;
   err = err_of text.refusal;
+  published = told_of text.refusal tells;
 }
 
 abbrev pub misunderstood : Output
@@ -48,12 +65,14 @@ misunderstood = record {
   status = 2;
   out = [];
   err = misunderstood_line;
+  published = None;
 }
 
 abbrev pub output_of_request : Option FileRequest → (List ℕ → Option (List ℕ)) → Option Output
 output_of_request None holds = Some misunderstood
 output_of_request (Some request) holds =
-    option_map (λ file. output_of_text (text_of_file request.text file)) (holds request.file)
+    option_map (λ file. output_of_text (text_of_file request.text file) (tells_of_file request.tells file))
+    (holds request.file)
 
 -- the output; none where the source doesn't tell what the name holds
 abbrev pub output_of : List (List ℕ) → List Named → (List ℕ → Option (List ℕ)) → Option Output
@@ -81,20 +100,26 @@ NothingFailed source0 source1 out0 out1 err0 err1 =
 pub record Ends (text : CommandText) (status : ℕ) (out0 out1 err0 err1 : Option (List ℕ))
     (out_faults0 out_faults1 err_faults0 err_faults1 : ℕ) : Type 0 where
   pub answers : (status < 2) ⊎ (status ≡ 4) ⊎ (status ≡ 5)
-  pub whole : status < 2 → Meets (output_of_text text) status out0 out1 err0 err1
+  pub whole : status < 2 → Meets (output_of_text text None) status out0 out1 err0 err1
   pub part : GainsPart out0 out1 text.text
   pub line : PartOfLine (err_of text.refusal) err0 err1
   pub failed : status ≡ 4 → Rose out_faults0 out_faults1 ⊎ Rose err_faults0 err_faults1
   pub later_out : out_faults0 ≤ out_faults1
   pub later_err : err_faults0 ≤ err_faults1
 
+-- what a run tells that ended with this status: nothing but with 0
+abbrev pub told_at : ℕ → Option PublishedView → Option PublishedView
+told_at zero published = published
+told_at (suc status) published = None
+
 -- How a run ended that was asked for this: with its output; with the line that speaks of the source (3); because a sink
 -- failed (4); or for want of memory (5).
 pub record EndsRun (request : Option FileRequest) (holds : List ℕ → Option (List ℕ)) (status : ℕ)
-    (out0 out1 err0 err1 : Option (List ℕ))
+    (published : Option PublishedView) (out0 out1 err0 err1 : Option (List ℕ))
     (source0 source1 out_faults0 out_faults1 err_faults0 err_faults1 : ℕ) : Type 0 where
   pub answers : status ≤ 5
   pub output : status < 3 → IfSome (output_of_request request holds) (λ output. Meets output status out0 out1 err0 err1)
+  pub told : IfSome (output_of_request request holds) (λ output. published ≡ told_at status output.published)
   pub meaningless : status ≡ 2 → request ≡ None
   pub read : status ≡ 3 → Rose source0 source1
   pub unread : status ≡ 3 → Gains out0 out1 [] × Gains err0 err1 unread_line

@@ -12,7 +12,6 @@ use Rattle.unit_headers.specs.Headers.{header_at, unit_count}
 use Rattle.unit_text.specs.Lists.{lists_text}
 use Rattle.unit_text.specs.Pieces.{Text}
 use Rattle.unit_text.specs.UnitLine.{unit_line}
-use Rattle.unit_text.specs.Units.{read_unit_text}
 use Rattle.dw_run.specs.declared.parts.Part.{Part}
 use Rattle.dw_run.specs.declared.parts.Part.TheVariants as parts
 use Rattle.dw_run.specs.CommandTexts.{CommandText, units_printed}
@@ -24,13 +23,16 @@ unit_of s header = do
   entries ← entries_of s header
   Ok (facts, entries)
 
--- The line of a unit; its whole text, refused where the unit is or at a value that can't be resolved; its line table,
--- refused at the unit's root or in the line program; its lists, refused where the unit is or in a list.
+-- the lists of a unit with these facts: refused at an entry, or else in a list
+unfoldable pub lists_with : SectionsView → UnitHeader → UnitFacts → Text
+lists_with s header facts = do
+  entries ← entries_of s header
+  lists_text (record { sections = s; header = header; facts = facts }) entries
+
+-- The line of a unit; its line table, refused at the unit's root or in the line program; its lists, refused where the
+-- unit is or in a list.
 unfoldable pub part_of : Part → SectionsView → UnitHeader → Text
 part_of parts.Line s header = Ok (unit_line header)
-part_of parts.Entries s header = do
-  unit ← unit_of s header
-  read_unit_text (record { sections = s; header = header; facts = unit.0 }) unit.1
 part_of parts.LineTable s header = do
   facts ← facts_of s header
   lines_text s header facts.line

@@ -52,21 +52,6 @@ impl FileCommand for Command {
     }
 }
 
-impl FileCommand for Part {
-    ghost use Rattle.dw_run.specs.Commands.{part_of_elf};
-
-    ghost text = { part_of_elf };
-
-    fn print<O: Sink>(
-        self,
-        alloc: Global,
-        file: &[u8],
-        out: &mut O,
-    ) -> Result<Option<Refusal>, WriteStop> {
-        open_and_print(alloc, self, file, out)
-    }
-}
-
 impl OpenedCommand for Part {
     ghost use Rattle.dw_run.specs.Parts.{part_of_units};
 

@@ -8,9 +8,9 @@ ghost use Rattle.dw_run.specs.CommandTexts.{CommandText, Prints};
 ghost use Rattle.dw_run.specs.FileRequests.{on_file};
 ghost use Rattle.dw_run.specs.Output.{Ends, EndsRun, text_of_file};
 
-use crate::endings::{DONE, NO_MEMORY, NOT_READ, NOT_WRITTEN, end_refused, end_with};
+use crate::endings::{DONE, RunEnd, end_refused, end_stopped, end_unread};
 use crate::refusals::Refusal;
-use dw_outside::{ReadStop, Sink, Source, WriteStop, read_file};
+use dw_outside::{Sink, Source, WriteStop, read_file};
 use elf_sections::FILE_LIMIT;
 use std::alloc::Global;
 
@@ -31,7 +31,7 @@ pub(crate) trait FileCommand: Drop {
         ensures cause { HasCause write_stops.Failed (O.faults out.old) (O.faults out.new) result };
 }
 
-/// Reads the file of this name, prints the command's text on it, and answers the status.
+/// Reads the file of this name, prints the command's text on it, and ends the run.
 pub(crate) fn answer_on_file<C: FileCommand, S: Source, O: Sink, E: Sink>(
     alloc: Global,
     command: C,
@@ -39,20 +39,20 @@ pub(crate) fn answer_on_file<C: FileCommand, S: Source, O: Sink, E: Sink>(
     source: &mut S,
     out: &mut O,
     err: &mut E,
-) -> u8
-    ensures { EndsRun (Some (on_file name.now (C.text command))) (S.holds source.old) result
+) -> RunEnd
+    ensures { EndsRun (Some (on_file name.now (C.text command))) (S.holds source.old)
+        result.status result.published
         (O.held out.old) (O.held out.new) (E.held err.old) (E.held err.new)
         (S.faults source.old) (S.faults source.new) (O.faults out.old) (O.faults out.new)
         (E.faults err.old) (E.faults err.new) }
 {
     match read_file(alloc, source, name, FILE_LIMIT) {
-        Ok(file) => print_and_end(alloc, command, file.as_slice(), out, err),
-        Err(ReadStop::Failed) => end_with(err, b"dwtool: cannot read the file\n", NOT_READ),
-        Err(ReadStop::OutOfMemory) => end_with(err, b"dwtool: out of memory\n", NO_MEMORY),
+        Ok(file) => RunEnd::of(print_and_end(alloc, command, file.as_slice(), out, err)),
+        Err(stop) => RunEnd::of(end_unread(err, stop)),
     }
 }
 
-/// Prints the command's text on the bytes of a file, and ends the run.
+/// Prints the command's text on the bytes of a file, and answers the status.
 fn print_and_end<C: FileCommand, O: Sink, E: Sink>(
     alloc: Global,
     command: C,
@@ -67,7 +67,6 @@ fn print_and_end<C: FileCommand, O: Sink, E: Sink>(
     match command.print(alloc, file, out) {
         Ok(None) => DONE,
         Ok(Some(refusal)) => end_refused(alloc, err, &refusal),
-        Err(WriteStop::Failed) => NOT_WRITTEN,
-        Err(WriteStop::OutOfMemory) => end_with(err, b"dwtool: out of memory\n", NO_MEMORY),
+        Err(stop) => end_stopped(err, stop),
     }
 }

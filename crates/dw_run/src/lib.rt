@@ -4,15 +4,17 @@
 //! says for every file which bytes standard output and standard error gain and which status is
 //! answered, as the definitions of `specs/Output.antt` give them, and what stands there where the
 //! source or a sink fails. A command goes over the units of a file one at a time, and prints the
-//! texts before the first unit that is refused ([`texts_before_the_first_refusal`]).
+//! texts before the first unit that is refused ([`texts_before_the_first_refusal`]). A dump goes over
+//! them by several workers at once, and prints the same.
 //!
-//! [`append_part`] is the text of one unit of an opened file: its line, its entries, its line table
-//! or its lists. A [`UnitReader`] looks up what the unit's text needs.
+//! [`append_part`] is the text of one unit of an opened file: its line, its line table or its lists. A
+//! [`UnitReader`] looks up what the unit's text needs.
 #![tactic(auto)]
 
 mod address_lines;
 mod addresses;
 mod commands;
+mod dump;
 mod endings;
 mod file_command;
 mod laws;
@@ -30,7 +32,8 @@ mod units;
 mod walked_table;
 
 pub use elf_builder::ElfBuilder;
+pub use endings::RunEnd;
 pub use laws::texts_before_the_first_refusal;
 pub use parts::{Part, append_part};
-pub use program::{RunEnd, run};
+pub use program::run;
 pub use unit_reader::UnitReader;

@@ -1,4 +1,4 @@
-//! The parts of a unit that commands print: its line, its entries, its line table, or its lists.
+//! The parts of a unit that commands print: its line, its line table, or its lists. The text of its entries is the dump's.
 
 ghost use Rattle.std.specs.Prelude.{◌≡◌, ◌<◌};
 ghost use Rattle.unit_headers.specs.Headers.{unit_count};
@@ -10,15 +10,13 @@ use bumpalo::Bump;
 use line_text::write_lines_with;
 use std::alloc::Global;
 use unit_headers::UnitRefusal;
-use unit_text::{write_lists_with, write_unit, write_unit_line};
+use unit_text::write_unit_line;
 
 /// A part of a unit.
 #[derive(Clone, Copy, Debug, PartialEq, Eq)]
 pub enum Part {
     /// The line of the unit alone.
     Line,
-    /// The line, and all entries with their attributes.
-    Entries,
     /// The line table.
     LineTable,
     /// The range lists and location lists of all entries.
@@ -45,19 +43,13 @@ pub fn append_part(
     let header = reader.header(unit)?;
     match part {
         Part::Line => Ok(write_unit_line(alloc, &header, out)?),
-        Part::Entries => {
-            let facts = reader.facts(unit)?;
-            let entries = reader.entries(arena, &header)?;
-            write_unit(alloc, &header, entries, reader.sections(), &facts, out)
-        }
         Part::LineTable => {
             let facts = reader.facts(unit)?;
             write_lines_with(alloc, &mut reader.tables, &header, &facts, out)
         }
         Part::Lists => {
             let facts = reader.facts(unit)?;
-            let entries = reader.entries(arena, &header)?;
-            write_lists_with(alloc, &mut reader.lists, &header, &facts, entries, out)
+            reader.write_lists(alloc, arena, &header, &facts, out)
         }
     }
 }

@@ -4,40 +4,40 @@ ghost use Rattle.std.specs.Prelude.{◌≡◌, ◌<◌, ◌≤◌, ◌⊎◌, []
 ghost use Rattle.std.specs.String.{string_bytes};
 ghost use Rattle.dw_outside.specs.Faults.{Rose};
 ghost use Rattle.dw_outside.specs.Gains.{Gains, GainsPart};
-ghost use Rattle.dw_words.specs.Requests.{request_view};
+ghost use Rattle.dw_words.specs.Requests.{HasFewWorkers, request_view};
 ghost use Rattle.dw_run.specs.Endings.{EndsWith, misunderstood_line, unread_line};
 ghost use Rattle.dw_run.specs.FileRequests.{asked_by, file_request_of};
-ghost use Rattle.dw_run.specs.Output.{EndsRun, Meets, NothingFailed, StopsWithin, output_of};
+ghost use Rattle.dw_run.specs.Output.{EndsRun, Meets, NothingFailed, StopsWithin, output_of, told_at};
 
 use crate::addresses::Addresses;
-use crate::endings::{NO_MEANING, NO_MEMORY, end_with};
+use crate::dump::{DumpWords, answer_dump};
+use crate::endings::{NO_MEANING, NO_MEMORY, RunEnd, end_with};
 use crate::file_command::answer_on_file;
-use crate::parts::Part;
 use crate::queries::Query;
-use dw_outside::{Sink, Source};
+use dw_outside::{Gate, Sink, Source};
 use dw_words::{Request, WordsRefusal, read_words};
 use std::alloc::Global;
+use std::thread::Threads;
 use visit_queries::{IsNamed, NamedVisitor, pick};
-
-/// How a run ended.
-#[derive(Clone, Copy, Debug, PartialEq, Eq)]
-pub struct RunEnd {
-    /// 0 done; 1 the file is refused; 2 the words have no meaning; 3 the file can't be read; 4 a
-    /// sink failed; 5 want of memory.
-    pub status: u8,
-}
 
 /// Does what the words after the program's name ask for: reads the file that they name from
 /// `source`, and writes the texts of their command to `out` and the line of a refusal to `err`. The
 /// first failure of the source or of a sink ends the reading and the writing to `out`. A query is
 /// answered by the first of `visitors` that has its name; where none has it, the words have no meaning.
-pub fn run<S: Source, O: Sink, E: Sink>(
+///
+/// A dump has as many workers as its words say, in threads of their own where these can be made. The gate
+/// is entered before a worker reads a unit and left behind it. The bytes are those of reading unit after
+/// unit anew, whatever the number of workers. A whole dump tells how many of the file's keys are in
+/// the table of the file's handle.
+pub fn run<R: Threads + Sync, S: Source, O: Sink, E: Sink, G: Gate + Sync>(
+    rt: &R,
     alloc: Global,
     words: &[String],
     source: &mut S,
     out: &mut O,
     err: &mut E,
     visitors: Vec<NamedVisitor>,
+    gate: &G,
 ) -> RunEnd
     ensures answers { result.status ≤ 5 }
 
@@ -47,6 +47,11 @@ pub fn run<S: Source, O: Sink, E: Sink>(
         (map ⟦<NamedVisitor as IsNamed>⟧.named visitors.items) (S.holds source.old))
         (λ output. Meets output result.status
         (O.held out.old) (O.held out.new) (E.held err.old) (E.held err.new)) }
+
+    // what a whole dump tells, and else nothing
+    ensures told { IfSome (output_of (map string_bytes words.now)
+        (map ⟦<NamedVisitor as IsNamed>⟧.named visitors.items) (S.holds source.old))
+        (λ output. result.published ≡ told_at result.status output.published) }
     ensures meaningless { result.status ≡ 2 → asked_by (map string_bytes words.now)
         (map ⟦<NamedVisitor as IsNamed>⟧.named visitors.items) ≡ None }
 
@@ -75,56 +80,67 @@ pub fn run<S: Source, O: Sink, E: Sink>(
         (O.faults out.old) (O.faults out.new) (E.faults err.old) (E.faults err.new)
         → (result.status < 2) ⊎ (result.status ≡ 5) }
 {
-    RunEnd {
-        status: answer_words(alloc, words, source, out, err, visitors),
-    }
+    answer_words(rt, alloc, words, source, out, err, visitors, gate)
 }
 
-/// Does what the words ask for, and answers the status.
-fn answer_words<S: Source, O: Sink, E: Sink>(
+/// Does what the words ask for.
+fn answer_words<R: Threads + Sync, S: Source, O: Sink, E: Sink, G: Gate + Sync>(
+    rt: &R,
     alloc: Global,
     words: &[String],
     source: &mut S,
     out: &mut O,
     err: &mut E,
     visitors: Vec<NamedVisitor>,
-) -> u8
+    gate: &G,
+) -> RunEnd
     ensures { EndsRun (asked_by (map string_bytes words.now)
-        (map ⟦<NamedVisitor as IsNamed>⟧.named visitors.items)) (S.holds source.old) result
+        (map ⟦<NamedVisitor as IsNamed>⟧.named visitors.items)) (S.holds source.old)
+        result.status result.published
         (O.held out.old) (O.held out.new) (E.held err.old) (E.held err.new)
         (S.faults source.old) (S.faults source.new) (O.faults out.old) (O.faults out.new)
         (E.faults err.old) (E.faults err.new) }
 {
     match read_words(alloc, words) {
-        Ok(request) => answer(alloc, &request, source, out, err, visitors),
-        Err(WordsRefusal::NoMeaning) => end_misunderstood(err),
-        Err(WordsRefusal::OutOfMemory) => end_with(err, b"dwtool: out of memory\n", NO_MEMORY),
+        Ok(request) => answer(rt, alloc, &request, source, out, err, visitors, gate),
+        Err(WordsRefusal::NoMeaning) => RunEnd::of(end_misunderstood(err)),
+        Err(WordsRefusal::OutOfMemory) => {
+            RunEnd::of(end_with(err, b"dwtool: out of memory\n", NO_MEMORY))
+        }
     }
 }
 
 /// Answers a request: reads its file, and prints its text.
 #[tactic(auto, unfolding(crate::specs::FileRequests::file_request_of))]
-fn answer<S: Source, O: Sink, E: Sink>(
+fn answer<R: Threads + Sync, S: Source, O: Sink, E: Sink, G: Gate + Sync>(
+    rt: &R,
     alloc: Global,
     request: &Request<'_>,
     source: &mut S,
     out: &mut O,
     err: &mut E,
     visitors: Vec<NamedVisitor>,
-) -> u8
+    gate: &G,
+) -> RunEnd
+    requires { HasFewWorkers (request_view request.now) }
     ensures { EndsRun (file_request_of (map ⟦<NamedVisitor as IsNamed>⟧.named visitors.items)
-        (request_view request.now)) (S.holds source.old) result
+        (request_view request.now)) (S.holds source.old) result.status result.published
         (O.held out.old) (O.held out.new) (E.held err.old) (E.held err.new)
         (S.faults source.old) (S.faults source.new) (O.faults out.old) (O.faults out.new)
         (E.faults err.old) (E.faults err.new) }
 {
     match request {
         Request::File { command, file } => answer_on_file(alloc, *command, file, source, out, err),
-        Request::Dump { file, stats, .. } => {
-            if *stats {
-                return end_misunderstood(err);
-            }
-            answer_on_file(alloc, Part::Entries, file, source, out, err)
+        Request::Dump {
+            file,
+            workers,
+            stats,
+        } => {
+            let words = DumpWords {
+                workers: *workers as u32,
+                stats: *stats,
+            };
+            answer_dump(rt, alloc, words, file, source, out, err, gate)
         }
         Request::Addresses { file, addresses } => {
             let command = Addresses {
@@ -139,9 +155,9 @@ fn answer<S: Source, O: Sink, E: Sink>(
                 };
                 answer_on_file(alloc, query, file, source, out, err)
             }
-            None => end_misunderstood(err),
+            None => RunEnd::of(end_misunderstood(err)),
         },
-        Request::Exercise { .. } => end_misunderstood(err),
+        Request::Exercise { .. } => RunEnd::of(end_misunderstood(err)),
     }
 }
 

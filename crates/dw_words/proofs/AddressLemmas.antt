@@ -1,5 +1,5 @@
 -- Words that are read as addresses, one after another.
-use Rattle.std.proofs.Common.{◌≡◌, ◌∙◌, ◌<◌, ◌≤◌, ◌+◌, arith, drop_of_length-le, ℕ, suc, refl, sym, ap, subst, append_assoc, append-nil, drop-cons, List, [], ◌∷◌, ◌++◌, drop, length, map, Option, Some, None, option_map, option_and_then, get_or}
+use Rattle.std.proofs.Common.{◌≡◌, ◌∙◌, ◌<◌, ◌≤◌, ◌+◌, arith, drop_of_length-le, ℕ, suc, refl, sym, ap, subst, append_assoc, append-nil, drop-cons, List, [], ◌∷◌, ◌++◌, drop, length, map, Option, Some, None, option_map, get_or}
 use Rattle.std.specs.Borrow.{Bor}
 use Rattle.dw_words.specs.Numbers.{address_of_word}
 use Rattle.dw_words.specs.Requests.{addresses_of}

@@ -1,5 +1,5 @@
 -- What the words behind a command give.
-use Rattle.std.specs.Prelude.{◌≡◌, ℕ, suc, ◌&&◌, Bool, true, false, List, [], ◌∷◌, map, Option, Some, None, Result, Ok, Err, ⊤}
+use Rattle.std.specs.Prelude.{◌≡◌, ℕ, suc, ◌≤◌, ◌&&◌, Bool, true, false, List, [], ◌∷◌, map, Option, Some, None, Result, Ok, Err, ⊤}
 use Rattle.std.specs.Prelude.{option_and_then, option_map, codes, if◌then◌else◌, ◌==◌, nat_le}
 use Rattle.std.specs.List.{list_any, before_first, after_first}
 use Rattle.std.specs.Str.{bytes_eq}
@@ -90,6 +90,10 @@ pub record Meaning : Type 0 where
   pub workers : Option ℕ
   pub stats : Bool
   pub rest : List Text
+
+-- a number of workers that words may ask for
+abbrev pub AreFewWorkers : ℕ → Type 0
+AreFewWorkers n = (1 ≤ n) × (n ≤ MOST_WORKERS)
 
 -- 1 to 64
 abbrev pub as_worker_count : ℕ → Option ℕ

@@ -1,8 +1,8 @@
 -- What a command line means.
-use Rattle.std.specs.Prelude.{◌≡◌, ℕ, Bool, ◌&&◌, ◌||◌, List, [], ◌∷◌, map, Option, Some, None, Result, Ok, Err, ⊤}
+use Rattle.std.specs.Prelude.{◌≡◌, ℕ, Bool, ◌&&◌, ◌||◌, List, [], ◌∷◌, Option, Some, None, Result, Ok, Err, ⊤}
 use Rattle.std.specs.Prelude.{option_and_then, option_map, unwrap_or, is_some, codes, if◌then◌else◌, nat_le}
 use Rattle.std.specs.Str.{bytes_eq}
-use Rattle.dw_words.specs.GivenWords.{Meaning, Text, meaning}
+use Rattle.dw_words.specs.GivenWords.{AreFewWorkers, Meaning, Text, meaning}
 use Rattle.dw_words.specs.Numbers.{address_of_word, decimal_of}
 use Rattle.dw_words.specs.declared.command.Command.{Command}
 use Rattle.dw_words.specs.declared.command.Command.TheVariants as commands
@@ -126,6 +126,14 @@ request_view (requests.Dump file workers stats) = of_dump file.now workers stats
 request_view (requests.Addresses file addresses) = of_addresses file.now addresses.items
 request_view (requests.Query visitor file) = of_query visitor.now file.now
 request_view (requests.Exercise units workers) = of_exercise units workers
+
+-- the number of workers of a request is one that words may ask for
+abbrev pub HasFewWorkers : RequestView → Type 0
+HasFewWorkers (of_file command file) = ⊤
+HasFewWorkers (of_dump file workers stats) = AreFewWorkers workers
+HasFewWorkers (of_addresses file addresses) = ⊤
+HasFewWorkers (of_query visitor file) = ⊤
+HasFewWorkers (of_exercise units workers) = AreFewWorkers workers
 
 -- the request, or that there is none; want of memory may come at any time
 abbrev pub IsRequest : Result Request WordsRefusal → Option RequestView → Type 0

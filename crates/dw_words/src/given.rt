@@ -1,10 +1,10 @@
 //! The words behind a command.
 
-ghost use Rattle.std.specs.Prelude.{◌≡◌, IfOk, [], map, codes};
+ghost use Rattle.std.specs.Prelude.{◌≡◌, IfOk, IfSome, [], map, codes};
 ghost use Rattle.std.specs.Option.{unwrap_or};
 ghost use Rattle.std.specs.String.{string_bytes};
 ghost use Rattle.clap.specs.Words.{all_of, first_of, found_of, rows_of};
-ghost use Rattle.dw_words.specs.GivenWords.{GivenWords, IsMeaning, meaning, settle, worker_count};
+ghost use Rattle.dw_words.specs.GivenWords.{AreFewWorkers, GivenWords, IsMeaning, meaning, settle, worker_count};
 ghost use Rattle.dw_words.specs.Parser.{Ends, workers_of};
 
 use crate::numbers::read_decimal;
@@ -39,7 +39,8 @@ pub struct Given<'w> {
 /// isn't a decimal number from 1 to [`MOST_WORKERS`], `--stats` has a value, or another word before
 /// `--` begins with `-` and isn't `-` alone. [`WordsRefusal::OutOfMemory`] for want of memory.
 pub fn read_given<'w>(alloc: Global, words: &'w [String]) -> Result<Given<'w>, WordsRefusal>
-    ensures { IsMeaning result (meaning (map string_bytes words.entry.now)) }
+    ensures meaning { IsMeaning result (meaning (map string_bytes words.entry.now)) }
+    ensures workers { IfOk result (λ given. IfSome given.workers AreFewWorkers) }
 {
     let matches = parse(alloc, words)?;
     given_in(alloc, &matches)
@@ -47,8 +48,9 @@ pub fn read_given<'w>(alloc: Global, words: &'w [String]) -> Result<Given<'w>, W
 
 /// What is found in the matches of a parse.
 fn given_in<'w>(alloc: Global, matches: &ArgMatches<'w>) -> Result<Given<'w>, WordsRefusal>
-    ensures { (g : GivenWords) → Ends (rows_of (found_of matches.now)) g
+    ensures meaning { (g : GivenWords) → Ends (rows_of (found_of matches.now)) g
         → IsMeaning result (settle g) }
+    ensures workers { IfOk result (λ given. IfSome given.workers AreFewWorkers) }
 {
     let workers = workers_in(matches)?;
     let stats = matches.get_flag("stats");
@@ -62,7 +64,9 @@ fn given_in<'w>(alloc: Global, matches: &ArgMatches<'w>) -> Result<Given<'w>, Wo
 
 /// The number of workers, where it is given.
 fn workers_in(matches: &ArgMatches<'_>) -> Result<Option<u64>, WordsRefusal>
-    ensures { result ≡ workers_of (first_of (codes "workers") (rows_of (found_of matches.now))) }
+    ensures workers { result
+        ≡ workers_of (first_of (codes "workers") (rows_of (found_of matches.now))) }
+    ensures few { IfOk result (λ workers. IfSome workers AreFewWorkers) }
 {
     match matches.get_str("workers") {
         Some(value) => match read_worker_count(value) {
@@ -91,7 +95,8 @@ fn rest_in<'w>(alloc: Global, matches: &ArgMatches<'w>) -> Result<Vec<&'w str>, 
 /// The number of workers that a word names.
 #[tactic(auto, unfolding(crate::specs::GivenWords::worker_count))]
 fn read_worker_count(word: &str) -> Option<u64>
-    ensures { result ≡ worker_count word.now }
+    ensures count { result ≡ worker_count word.now }
+    ensures few { IfSome result AreFewWorkers }
 {
     match read_decimal(word) {
         Some(count) if 1 <= count && count <= MOST_WORKERS => Some(count),

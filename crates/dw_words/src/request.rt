@@ -1,9 +1,9 @@
 //! The reading of a command line.
 
-ghost use Rattle.std.specs.Prelude.{◌≡◌, map, option_map};
+ghost use Rattle.std.specs.Prelude.{◌≡◌, IfOk, IfSome, map, option_map};
 ghost use Rattle.std.specs.String.{string_bytes};
-ghost use Rattle.dw_words.specs.GivenWords.{meaning_view};
-ghost use Rattle.dw_words.specs.Requests.{AreAddresses, IsRequest, addresses_of};
+ghost use Rattle.dw_words.specs.GivenWords.{AreFewWorkers, meaning_view};
+ghost use Rattle.dw_words.specs.Requests.{AreAddresses, HasFewWorkers, IsRequest, addresses_of};
 ghost use Rattle.dw_words.specs.Requests.{addresses_request, asked, dump_request, exercise_asked};
 ghost use Rattle.dw_words.specs.Requests.{exercise_request, file_asked, file_request};
 ghost use Rattle.dw_words.specs.Requests.{meaning_of, plain_asked, query_request, request_view};
@@ -79,7 +79,8 @@ pub enum Request<'w> {
 /// [`WordsRefusal::OutOfMemory`] for want of memory.
 #[tactic(auto, unfolding(crate::specs::Requests::meaning_of))]
 pub fn read_words<'w>(alloc: Global, words: &'w [String]) -> Result<Request<'w>, WordsRefusal>
-    ensures { IsRequest result (meaning_of (map string_bytes words.entry.now)) }
+    ensures request { IsRequest result (meaning_of (map string_bytes words.entry.now)) }
+    ensures workers { IfOk result (λ request. HasFewWorkers (request_view request)) }
 {
     let [name, behind @ ..] = words else {
         return Err(WordsRefusal::NoMeaning);
@@ -91,7 +92,9 @@ pub fn read_words<'w>(alloc: Global, words: &'w [String]) -> Result<Request<'w>,
 /// What the words behind a command of this name ask for.
 #[tactic(auto, unfolding(crate::specs::Requests::asked))]
 fn request_of<'w>(alloc: Global, name: &str, given: &Given<'w>) -> Result<Request<'w>, WordsRefusal>
-    ensures { IsRequest result (asked name.now (meaning_view given.now)) }
+    requires { IfSome given.now.workers AreFewWorkers }
+    ensures request { IsRequest result (asked name.now (meaning_view given.now)) }
+    ensures workers { IfOk result (λ request. HasFewWorkers (request_view request)) }
 {
     match name {
         "addr" => match words_alone(given) {
@@ -108,7 +111,10 @@ fn request_of<'w>(alloc: Global, name: &str, given: &Given<'w>) -> Result<Reques
 /// The same for the commands that want no list of their own.
 #[tactic(auto, unfolding(crate::specs::Requests::plain_asked))]
 fn plain_request<'w>(name: &str, given: &Given<'w>) -> Option<Request<'w>>
-    ensures { option_map request_view result ≡ plain_asked name.now (meaning_view given.now) }
+    requires { IfSome given.now.workers AreFewWorkers }
+    ensures request { option_map request_view result
+        ≡ plain_asked name.now (meaning_view given.now) }
+    ensures workers { IfSome result (λ request. HasFewWorkers (request_view request)) }
 {
     match name {
         "query" => match words_alone(given) {
@@ -128,7 +134,9 @@ fn plain_request<'w>(name: &str, given: &Given<'w>) -> Option<Request<'w>>
 /// `COMMAND FILE`, of a command that takes no option.
 #[tactic(auto, unfolding(crate::specs::Requests::file_asked))]
 fn file_asked<'w>(name: &str, given: &Given<'w>) -> Option<Request<'w>>
-    ensures { option_map request_view result ≡ file_asked name.now (meaning_view given.now) }
+    ensures request { option_map request_view result
+        ≡ file_asked name.now (meaning_view given.now) }
+    ensures workers { IfSome result (λ request. HasFewWorkers (request_view request)) }
 {
     match find_command(name) {
         Some(command) => match words_alone(given) {
@@ -141,8 +149,9 @@ fn file_asked<'w>(name: &str, given: &Given<'w>) -> Option<Request<'w>>
 
 #[tactic(auto, unfolding(crate::specs::Requests::file_request))]
 fn file_request<'w>(command: Command, words: &[&'w str]) -> Option<Request<'w>>
-    ensures { option_map request_view result
+    ensures request { option_map request_view result
         ≡ file_request command (map (λ word. word.now) words.now) }
+    ensures workers { IfSome result (λ request. HasFewWorkers (request_view request)) }
 {
     let [file] = words else {
         return None;
@@ -156,8 +165,10 @@ fn file_request<'w>(command: Command, words: &[&'w str]) -> Option<Request<'w>>
 /// `dump [--workers W] [--stats] FILE`.
 #[tactic(auto, unfolding(crate::specs::Requests::dump_request))]
 fn dump_request<'w>(workers: u64, stats: bool, words: &[&'w str]) -> Option<Request<'w>>
-    ensures { option_map request_view result
+    requires { AreFewWorkers workers }
+    ensures request { option_map request_view result
         ≡ dump_request workers stats (map (λ word. word.now) words.now) }
+    ensures workers { IfSome result (λ request. HasFewWorkers (request_view request)) }
 {
     let [file] = words else {
         return None;
@@ -172,7 +183,8 @@ fn dump_request<'w>(workers: u64, stats: bool, words: &[&'w str]) -> Option<Requ
 /// `addr FILE ADDRESS..`.
 #[tactic(auto, unfolding(crate::specs::Requests::addresses_request))]
 fn addresses_request<'w>(alloc: Global, words: &[&'w str]) -> Result<Request<'w>, WordsRefusal>
-    ensures { IsRequest result (addresses_request (map (λ word. word.now) words.now)) }
+    ensures request { IsRequest result (addresses_request (map (λ word. word.now) words.now)) }
+    ensures workers { IfOk result (λ request. HasFewWorkers (request_view request)) }
 {
     let [file, behind @ ..] = words else {
         return Err(WordsRefusal::NoMeaning);
@@ -204,7 +216,9 @@ fn read_addresses(alloc: Global, words: &[&str]) -> Result<Vec<u64>, WordsRefusa
 /// `query NAME FILE`.
 #[tactic(auto, unfolding(crate::specs::Requests::query_request))]
 fn query_request<'w>(words: &[&'w str]) -> Option<Request<'w>>
-    ensures { option_map request_view result ≡ query_request (map (λ word. word.now) words.now) }
+    ensures request { option_map request_view result
+        ≡ query_request (map (λ word. word.now) words.now) }
+    ensures workers { IfSome result (λ request. HasFewWorkers (request_view request)) }
 {
     let [visitor, file] = words else {
         return None;
@@ -217,7 +231,9 @@ fn query_request<'w>(words: &[&'w str]) -> Option<Request<'w>>
 
 /// `exercise N [--workers W]`.
 fn exercise_asked<'w>(given: &Given<'w>) -> Option<Request<'w>>
-    ensures { option_map request_view result ≡ exercise_asked (meaning_view given.now) }
+    requires { IfSome given.now.workers AreFewWorkers }
+    ensures request { option_map request_view result ≡ exercise_asked (meaning_view given.now) }
+    ensures workers { IfSome result (λ request. HasFewWorkers (request_view request)) }
 {
     if given.stats {
         return None;
@@ -230,8 +246,10 @@ fn exercise_asked<'w>(given: &Given<'w>) -> Option<Request<'w>>
 
 #[tactic(auto, unfolding(crate::specs::Requests::exercise_request))]
 fn exercise_request<'w>(workers: u64, words: &[&'w str]) -> Option<Request<'w>>
-    ensures { option_map request_view result
+    requires { AreFewWorkers workers }
+    ensures request { option_map request_view result
         ≡ exercise_request workers (map (λ word. word.now) words.now) }
+    ensures workers { IfSome result (λ request. HasFewWorkers (request_view request)) }
 {
     let [word] = words else {
         return None;

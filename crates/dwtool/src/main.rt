@@ -1,11 +1,12 @@
 //! `dwtool`: prints the debugging information of ELF files (docs/FORMATS.md).
 #![tactic(auto)]
 
-use dw_outside::{FileSource, Sink, Source, StreamSink};
+use dw_outside::{FileSource, OpenGate, Sink, Source, StreamSink};
 use dw_run::{RunEnd, run};
 use std::alloc::{AllocError, Global};
 use std::process::ExitCode;
 use std::rt::Env;
+use std::thread::Threads;
 use std::{env, io};
 use visit_queries::{Functions, NamedVisitor, Types, Variables, Visitor};
 
@@ -27,15 +28,23 @@ fn main(rt: HostRuntime) -> ExitCode {
     };
     let mut out = StreamSink::new(rt.stdout());
     let mut err = StreamSink::new(rt.stderr());
-    let mut source = FileSource::new(rt);
-    match run_with_visitors(alloc, words.as_slice(), &mut source, &mut out, &mut err) {
+    let mut source = FileSource::new(&rt);
+    match run_with_visitors(
+        &rt,
+        alloc,
+        words.as_slice(),
+        &mut source,
+        &mut out,
+        &mut err,
+    ) {
         Ok(end) => ExitCode::from(end.status),
         Err(_) => ExitCode::from(NO_MEMORY),
     }
 }
 
 /// Runs with a visitor for each name that a query may give.
-fn run_with_visitors<S: Source, O: Sink, E: Sink>(
+fn run_with_visitors<R: Threads + Sync, S: Source, O: Sink, E: Sink>(
+    rt: &R,
     alloc: Global,
     words: &[String],
     source: &mut S,
@@ -49,7 +58,7 @@ fn run_with_visitors<S: Source, O: Sink, E: Sink>(
     visitors.push(named(alloc, "functions", functions)?)?;
     visitors.push(named(alloc, "variables", variables)?)?;
     visitors.push(named(alloc, "types", types)?)?;
-    Ok(run(alloc, words, source, out, err, visitors))
+    Ok(run(rt, alloc, words, source, out, err, visitors, &OpenGate))
 }
 
 /// A visitor with a name.

@@ -13,8 +13,6 @@
 mod row_index;
 mod rows;
 mod runs;
-#[cfg(test)]
-mod tests;
 mod walking;
 
 pub use row_index::RowIndex;

@@ -7,18 +7,22 @@ use crate::hex::{bytes_of, joined_bytes_of};
 use crate::padded::PaddedSource;
 use crate::peak::peak_text;
 use dw_fields::Order;
-use dw_outside::{MemorySink, MemorySource, Source};
+use dw_outside::{MemorySink, MemorySource, OpenGate, Source};
 use dw_run::{ElfBuilder, run};
 use std::alloc::{AllocError, Global};
 use std::io;
 use std::rt::Files;
+use std::thread::Threads;
 use visit_queries::{Functions, NamedVisitor, Types, Variables, Visitor};
 
 /// How many entries a visitor keeps.
 const MOST_ENTRIES: u64 = 7;
 
+/// The numbers of workers that a dump is repeated with.
+const WORKERS: [&str; 4] = ["1", "2", "7", "64"];
+
 /// Does what the line says.
-pub fn run_line<R: Print + Files + AllocGlobal>(
+pub fn run_line<R: Print + Files + AllocGlobal + Threads + Sync>(
     rt: &R,
     row: &mut Case,
     files: &mut NamedFiles,
@@ -49,8 +53,8 @@ pub fn run_line<R: Print + Files + AllocGlobal>(
             let (name, call) = rest.split_once(' ').unwrap_or(("", ""));
             row.fail(name, call.parse::<u64>().unwrap_or(0))?;
         }
-        "run" => answer(alloc, row, rest, false)?,
-        "last" => answer(alloc, row, rest, true)?,
+        "run" => answer(rt, alloc, row, rest, false)?,
+        "last" => answer(rt, alloc, row, rest, true)?,
         "call" => {
             let (name, hex) = rest.split_once(' ').unwrap_or((rest, ""));
             let bytes = bytes_of(alloc, hex, Order::Little)?;
@@ -112,21 +116,66 @@ fn words_of(alloc: Global, line: &str) -> io::Result<Vec<String>> {
     Ok(words)
 }
 
-/// Prints what the top call prints on the row's file. Its twin must print the same.
-fn answer(alloc: Global, row: &mut Case, line: &str, counted: bool) -> io::Result<()> {
+/// Prints what the top call prints on the row's file. Its twin must print the same, and a dump with other numbers of
+/// workers too.
+fn answer<R: Threads + Sync>(
+    rt: &R,
+    alloc: Global,
+    row: &mut Case,
+    line: &str,
+    counted: bool,
+) -> io::Result<()> {
     let words = words_of(alloc, line)?;
-    let printed = text_of_run(alloc, row, words.as_slice(), counted)?;
+    let printed = text_of_run(rt, alloc, row, words.as_slice(), counted)?;
     row.print(printed.as_slice())?;
     if let Some(twin) = row.twin()? {
         let mut source = named_source(alloc, row, twin)?;
-        let other = text_from(alloc, row, words.as_slice(), &mut source, counted)?;
+        let other = text_from(rt, alloc, row, words.as_slice(), &mut source, counted)?;
         if other.as_slice() != printed.as_slice() {
             row.print(b"as a 32-bit big-endian file:\n")?;
             row.print(other.as_slice())?;
         }
     }
+    if let Some(behind) = words_behind_dump(words.as_slice()) {
+        for workers in WORKERS {
+            let words = dump_words(alloc, workers, behind)?;
+            let other = text_of_run(rt, alloc, row, words.as_slice(), counted)?;
+            if other.as_slice() != printed.as_slice() {
+                row.print(format!(in alloc; "with {workers} workers:\n")?.as_bytes())?;
+                row.print(other.as_slice())?;
+            }
+        }
+    }
     row.forgive();
     Ok(())
+}
+
+/// What stands behind the word `dump`, where no number of workers is among it.
+fn words_behind_dump(words: &[String]) -> Option<&[String]> {
+    let [command, behind @ ..] = words else {
+        return None;
+    };
+    if command.as_str() != "dump" {
+        return None;
+    }
+    for word in behind {
+        if word.as_str().starts_with("--workers") {
+            return None;
+        }
+    }
+    Some(behind)
+}
+
+/// The words of a dump by so many workers.
+fn dump_words(alloc: Global, workers: &str, behind: &[String]) -> io::Result<Vec<String>> {
+    let mut words = Vec::new(alloc);
+    words.push(String::from_str(alloc, "dump")?)?;
+    words.push(String::from_str(alloc, "--workers")?)?;
+    words.push(String::from_str(alloc, workers)?)?;
+    for word in behind {
+        words.push(String::from_str(alloc, word.as_str())?)?;
+    }
+    Ok(words)
 }
 
 /// A source that holds the bytes under the name F.
@@ -137,21 +186,28 @@ fn named_source(alloc: Global, row: &Case, bytes: Vec<u8>) -> io::Result<MemoryS
 }
 
 /// What the top call prints on the row's file.
-fn text_of_run(alloc: Global, row: &Case, words: &[String], counted: bool) -> io::Result<Vec<u8>> {
+fn text_of_run<R: Threads + Sync>(
+    rt: &R,
+    alloc: Global,
+    row: &Case,
+    words: &[String],
+    counted: bool,
+) -> io::Result<Vec<u8>> {
     let file = row.file.bytes.clone()?;
     if row.length > file.len() as u64 {
         let mut source = PaddedSource {
             bytes: file.as_slice(),
             length: row.length,
         };
-        return text_from(alloc, row, words, &mut source, counted);
+        return text_from(rt, alloc, row, words, &mut source, counted);
     }
     let mut source = named_source(alloc, row, file)?;
-    text_from(alloc, row, words, &mut source, counted)
+    text_from(rt, alloc, row, words, &mut source, counted)
 }
 
 /// What the top call prints on what the source holds: out, err and the status.
-fn text_from<S: Source>(
+fn text_from<R: Threads + Sync, S: Source>(
+    rt: &R,
     alloc: Global,
     row: &Case,
     words: &[String],
@@ -167,7 +223,9 @@ fn text_from<S: Source>(
     visitors.push(named(alloc, "functions", functions)?)?;
     visitors.push(named(alloc, "variables", variables)?)?;
     visitors.push(named(alloc, "types", types)?)?;
-    let end = run(alloc, words, source, &mut out, &mut err, visitors);
+    let end = run(
+        rt, alloc, words, source, &mut out, &mut err, visitors, &OpenGate,
+    );
     let mut text = Vec::new(alloc);
     if counted {
         push_last(alloc, &mut text, out.bytes())?;

@@ -17,7 +17,8 @@
 //!   A WORD may be `N*WORD` for N times that word.
 //!   `last WORD ..` does the same, and prints of out the number of its lines and the last of them.
 //!   Where the file has a twin and no call fails, the top call runs on that too, and what it prints
-//!   stands behind it if it isn't the same.
+//!   stands behind it if it isn't the same. A dump whose words name no number of workers runs with 1, 2, 7 and 64 of them
+//!   too, in the same way.
 //! - `call NAME HEX` makes one call of a cut over these bytes, and prints its answer.
 //! - `peak N` prints whether the program has taken at most N bytes of memory so far.
 //! - `want TEXT` is the next line that was printed.

@@ -16,7 +16,7 @@ units-init g c = record {
 
 pub units-preserved : goal.units-preserved
 units-preserved g c =
-    let read = rw c.in-Whole.is at (c.in-Some.ensures.found (sections_in c.args.handle.now) c.args.window c.requires.reads.each) in
+    let read = rw c.in-Whole.is at (c.find_reading.ensures.found (sections_in c.args.handle.now) c.args.window c.requires.reads.each) in
     record {
       printed = λ r new p. c.units.invariant.printed r new
           (printed_next (sections_in c.args.handle.now) c.units.unit _ (c.args.end - (c.units.unit + 1)) c.in-Whole.text.items c.as_slice.result.now
@@ -34,7 +34,7 @@ overflow_add-entries g c = let room = c.units.invariant.room in omega arith
 
 pub returns-in-Err-clause-printed : goal.returns-in-Err-clause-printed
 returns-in-Err-clause-printed g c =
-    let read = rw c.in-Whole.is at (c.in-Some.ensures.found (sections_in c.args.handle.now) c.args.window c.requires.reads.each) in
+    let read = rw c.in-Whole.is at (c.find_reading.ensures.found (sections_in c.args.handle.now) c.args.window c.requires.reads.each) in
     c.units.invariant.printed (Err c.in-Err.fault) _
     (printed_cut (sections_in c.args.handle.now) c.units.unit _ (c.args.end - (c.units.unit + 1)) c.in-Whole.text.items c.as_slice.result.now _ _ c.in-Err.fault (omega arith)
     read.0 c.as_slice.ensures.value c.in-Err.ensures.part)
@@ -44,7 +44,7 @@ returns-in-Err-clause-cause g c = cause_of c.in-Err.fault dump_faults.WriteFault
 
 pub returns-in-Refused-clause-printed : goal.returns-in-Refused-clause-printed
 returns-in-Refused-clause-printed g c =
-    let read = rw c.in-Refused.is at (c.in-Some.ensures.found (sections_in c.args.handle.now) c.args.window c.requires.reads.each) in
+    let read = rw c.in-Refused.is at (c.find_reading.ensures.found (sections_in c.args.handle.now) c.args.window c.requires.reads.each) in
     c.units.invariant.printed (Ok (Some (record { unit = c.units.unit; fault = c.in-Refused.fault }))) _
     (printed_refused (sections_in c.args.handle.now) c.units.unit _ (c.args.end - (c.units.unit + 1)) c.in-Refused.fault _ (omega arith) read)
 

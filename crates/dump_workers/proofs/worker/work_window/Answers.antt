@@ -39,14 +39,14 @@ units-preserved g c =
     let inside : IsUnitOfWindow (unit_count s.info s.order) c.args.window unit = subst (λ (n : ℕ). IsUnitOfWindow n c.args.window unit) c.requires.units c.in-Some.ensures.unit in
     record {
       belongs = c.in-Ok.ensures.belongs;
-      follows = follows_then c.args.pass.now c.units.pass c.read_unit.new.pass before.follows c.in-Ok.ensures.follows;
+      follows = follows_then c.args.pass.now c.units.pass c.read_unit-read.new.pass before.follows c.in-Ok.ensures.follows;
       of_draws = c.in-Some.ensures.of;
       keeps = keeps_then c.args.seat.now.knows c.units.seat.knows c.draw.new.seat.knows before.keeps c.in-Some.ensures.numbers;
       ended = ap (λ (v : DrawView). v.ended) drew ∙ before.ended;
       drawn = λ u. rw (drew, added) (drawn_more u unit c.args.seat.now.knows.drawn c.units.seat.knows.drawn c.units.readings.items r c.in-Ok.ensures.unit (before.drawn u));
       each = rw added (All-push (IsReading s c.args.window) c.units.readings.items r before.each (reading_of s c.args.window unit r c.in-Ok.ensures.unit inside c.in-Ok.ensures.read));
-      noted = rw added (notes_more s c.units.pass c.read_unit.new.pass unit c.units.readings.items r c.in-Ok.ensures.unit c.in-Ok.ensures.follows before.noted c.in-Ok.ensures.noted);
-      reads = reads_then s c.args.pass.now c.units.pass c.read_unit.new.pass c.args.steps.now c.units.steps c.read_unit.new.steps before.follows before.reads c.in-Ok.ensures.reads;
+      noted = rw added (notes_more s c.units.pass c.read_unit-read.new.pass unit c.units.readings.items r c.in-Ok.ensures.unit c.in-Ok.ensures.follows before.noted c.in-Ok.ensures.noted);
+      reads = reads_then s c.args.pass.now c.units.pass c.read_unit-read.new.pass c.args.steps.now c.units.steps c.read_unit-read.new.steps before.follows before.reads c.in-Ok.ensures.reads;
     }
 
 pub returns-clause-serves : goal.returns-clause-serves

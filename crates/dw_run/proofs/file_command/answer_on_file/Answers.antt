@@ -1,14 +1,16 @@
-use Rattle.std.proofs.Common.{Err, ap}
+use Rattle.std.proofs.Common.{Err, ap, ◌∙◌}
 use Rattle.dw_outside.specs.declared.stops.ReadStop.{ReadStop}
-use Rattle.dw_run.proofs.Ended.{ends_on_file, ends_unread, ends_without_memory}
+use Rattle.dw_run.specs.Output.{tells_of_file}
+use Rattle.dw_run.proofs.Ended.{ends_before, ends_on_file, told_none}
 use Rattle.dw_run.proofs.file_command.answer_on_file.Goals as goal
 
 pub returns-in-Ok : goal.returns-in-Ok
-returns-in-Ok g c = ends_on_file _ _ _ _ _ _ _ _ _ _ _ _ _ _ _ _ c.as_slice.ensures.value c.in-Ok.ensures.whole c.print_and_end.ensures
+unfolding tells_of_file
+returns-in-Ok g c =
+    rw c.of.ensures.status
+    (ends_on_file _ _ _ _ _ _ _ _ _ _ _ _ _ _ _ _ _ _ c.as_slice.ensures.value c.in-Ok.ensures.whole c.print_and_end.ensures (c.of.ensures.published ∙ told_none _))
 
-pub returns-in-Err-Failed : goal.returns-in-Err-Failed
-returns-in-Err-Failed g c =
-    ends_unread _ _ _ _ _ _ _ _ _ _ _ (c.in-Err-Failed.ensures.cause.rose (ap (λ (e : ReadStop). Err e) c.in-Err-Failed.field-0-is)) c.end_with.ensures
-
-pub returns : goal.returns
-returns g c = ends_without_memory _ _ _ _ _ _ _ _ _ _ _ c.end_with-in-Err-OutOfMemory.ensures
+pub returns-in-Err : goal.returns-in-Err
+returns-in-Err g c =
+    rw c.of-in-Err.ensures.status
+    (ends_before _ _ _ _ _ _ _ _ _ _ _ _ _ c.of-in-Err.ensures.published (λ is. c.in-Err.ensures.cause.rose (ap (λ (e : ReadStop). Err e) is)) c.end_unread.ensures)

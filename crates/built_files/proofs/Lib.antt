@@ -1,0 +1,4 @@
+-- How a built file reads.
+mod Headers
+mod Rows
+pub mod Files

@@ -6,3 +6,4 @@ pub mod LinesSent
 pub mod ListParts
 pub mod SectionsText
 pub mod UnitsPrinted
+pub mod Walking

@@ -7,6 +7,7 @@ what any file of its size takes: docs/FORMATS.md, 'Limits', says how much an att
 import struct
 
 ATTRIBUTE_BYTES = 48
+ROW_BYTES = 24
 
 
 def uleb(number):
@@ -102,6 +103,20 @@ def many_units_on_a_program(units, operations):
                    (".debug_line", line_program(ONE_FILE, b"\6" * operations))])
 
 
+def many_overlapping_programs(units, operations):
+    """Units that each name a program of version 4 of their own, all up to the section's end: each header of 64 bytes is
+    passed over by the programs before it. Its last three bytes are the first of its program: an operation of one byte, and
+    an unknown one that passes over the length and the first byte of the version behind it. The second byte of that and the
+    header's length are an unknown operation again, and three bytes of one operation each stand before its program."""
+    fields = bytes([1, 1, 1, 0xfb, 14, 1]) + b"\0" + b"a\0\0\0\0" + b"\0"
+    rest = fields + bytes(51 - 3 - len(fields)) + b"\x20" * 3
+    length = 64 * units + operations
+    headers = b"".join(struct.pack("<IHI", length - 64 * unit - 4, 4, len(rest)) + rest + b"\1\0\5" for unit in range(units))
+    table = declaration(1, 0x11, [(STMT_LIST, SEC_OFFSET)]) + b"\0"
+    entries = b"".join(unit_of(b"\1" + struct.pack("<I", 64 * unit)) for unit in range(units))
+    return elf_of([(".debug_abbrev", table), (".debug_info", entries), (".debug_line", headers + b"\x20" * operations)])
+
+
 def many_rows(operations):
     """A line program that makes a row of each byte."""
     table = declaration(1, 0x11, [(STMT_LIST, SEC_OFFSET)]) + b"\0"
@@ -135,6 +150,7 @@ def hostile_files():
         ("1500 entries behind 1500 declarations", many_declarations(1500), 0),
         ("1000 units behind 1000 declarations", many_units_on_a_table(1000, 1000), 0),
         ("4000 units on one line program", many_units_on_a_program(4000, 100000), 0),
+        ("200 units on overlapping line programs", many_overlapping_programs(200, 20000), 200 * 20400 * ROW_BYTES),
         ("100000 rows", many_rows(100000), 0),
         ("20000 attributes on one list", many_lists(20000, 20000), 0),
         ("400 values in one text", many_texts(400, 10000), 0),

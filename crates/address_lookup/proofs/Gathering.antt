@@ -1,5 +1,5 @@
 -- What a step leaves of the tables that are gathered.
-use Rattle.std.proofs.Common.{◌≡◌, ◌∙◌, ◌⊎◌, ◌<◌, ◌^◌, ℕ, Bool, true, false, cond, not, List, [], ◌∷◌, ◌++◌, length, map, Option, Some, None, option_map, option_and_then, IfSome, Result, Ok, Err, OnOk, refl, sym, ap, subst, inl, inr, arith}
+use Rattle.std.proofs.Common.{◌≡◌, ◌∙◌, ◌⊎◌, ◌<◌, ◌^◌, ℕ, Bool, true, false, cond, [], ◌∷◌, ◌++◌, length, map, Option, Some, None, option_map, option_and_then, IfSome, Result, Ok, Err, OnOk, refl, sym, ap, subst, inl, inr, arith}
 use Rattle.std.specs.declared.cmp.Ordering.{Ordering}
 use Rattle.std.specs.declared.cmp.Ordering.TheVariants.{Less, Equal, Greater}
 use Rattle.std.specs.BTreeSet.{BTreeSet}
@@ -11,13 +11,12 @@ use Rattle.std.proofs.lemmas.Map.Lookups.{CmpEqualImpliesEq, exact_pairs, exact_
 use Rattle.elf_sections.specs.Shapes.{SectionsView}
 use Rattle.line_programs.specs.LineTables.{table_of}
 use Rattle.row_index.specs.Rows.{row_at}
-use Rattle.address_lookup.specs.declared.names.UnitNames.{UnitNames}
 use Rattle.address_lookup.specs.declared.programs.ProgramKey.{ProgramKey}
 use Rattle.address_lookup.specs.declared.programs.UnitProgram.{UnitProgram}
 use Rattle.address_lookup.specs.declared.tables.Tables.{Tables}
 use Rattle.address_lookup.specs.declared.tables.UnitTable.{UnitTable}
 use Rattle.address_lookup.specs.Kept.{KeptTable, kept_place, kept_place_of, kept_table, kept_table_view}
-use Rattle.address_lookup.specs.Built.{AddsTable, IsGathered, Notes, TellsNothing, key_cmp, told, was_run}
+use Rattle.address_lookup.specs.Built.{AddsTable, IsGathered, NotesProgram, TellsNothing, key_cmp, kept_answer, was_run}
 use Rattle.address_lookup.specs.Places.{PlaceView, place_in_unit}
 use Rattle.address_lookup.specs.Programs.{key_of, table_at, unit_program, unit_table}
 use Rattle.address_lookup.proofs.Found.{table_tells}
@@ -47,19 +46,19 @@ pub noted_key : (old now : BTreeSet ProgramKey) (key k : ProgramKey) → was_run
     → (was_run old k ≡ true) ⊎ (k ≡ key)
 noted_key old now key k is was = same_key key k (was_run old k) (either (is_eq (key_cmp key k)) (was_run old k) (sym is ∙ was))
 
-run_after : (s : SectionsView) (unit : ℕ) (old now : Tables) (key k : ProgramKey) → AddedTo unit (table_at s key) (told old) (told now) → IsGathered s old
-    → ((was_run old.programs k ≡ true) ⊎ (k ≡ key)) → TellsNothing s (told now) k
-run_after s unit old now key k added h (inl before) = nothing_later s unit (table_at s key) (told old) (told now) k added (h.run k before)
-run_after s unit old now key k added h (inr same) = subst (TellsNothing s (told now)) (sym same) (nothing_again s unit (told old) (told now) key added)
+run_after : (s : SectionsView) (unit : ℕ) (old now : Tables) (key k : ProgramKey) → AddedTo unit (table_at s key) (kept_answer old) (kept_answer now) → IsGathered s old
+    → ((was_run old.programs k ≡ true) ⊎ (k ≡ key)) → TellsNothing s (kept_answer now) k
+run_after s unit old now key k added h (inl before) = nothing_later s unit (table_at s key) (kept_answer old) (kept_answer now) k added (h.run k before)
+run_after s unit old now key k added h (inr same) = subst (TellsNothing s (kept_answer now)) (sym same) (nothing_again s unit (kept_answer old) (kept_answer now) key added)
 
 -- the tables behind a step
 pub gathered_after : (s : SectionsView) (unit : ℕ) (program : UnitProgram) (old now : Tables) (is_new : Bool) → old.texts ≡ s → now.texts ≡ s
-    → length now.units.items ≡ length now.rows.items → Notes old.programs now.programs (key_of program) is_new → AddsTable unit program old now → IsGathered s old → IsGathered s now
+    → length now.units.items ≡ length now.rows.items → NotesProgram old.programs now.programs (key_of program) is_new → AddsTable unit program old now → IsGathered s old → IsGathered s now
 gathered_after s unit program old now is_new before texts sizes notes added h = record {
   texts = texts;
   sizes = sizes;
   run = λ k was.
-      let mine : AddedTo unit (table_at s (key_of program)) (told old) (told now) = subst (λ (t : SectionsView). AddedTo unit (table_at t (key_of program)) (told old) (told now)) before added in
+      let mine : AddedTo unit (table_at s (key_of program)) (kept_answer old) (kept_answer now) = subst (λ (t : SectionsView). AddedTo unit (table_at t (key_of program)) (kept_answer old) (kept_answer now)) before added in
       run_after s unit old now (key_of program) k mine h (notes.others k was);
 }
 
@@ -79,8 +78,8 @@ added_by unit program old now table sizes units rows number few is a x =
     ap (λ us. option_or (kept_place_of us (map (λ v. v.items) now.rows.items) a) x) units
     ∙ ap (λ rs. option_or (kept_place_of (old.units.items ++ table.names ∷ []) rs a) x) (ap (map (λ v. v.items)) rows ∙ map_push (λ v. v.items) old.rows.items table.rows)
     ∙ ap (λ o. option_or o x) (kept_more old.units.items (map (λ v. v.items) old.rows.items) table.names table.rows.items a (sizes ∙ sym (length-map old.rows.items (λ v. v.items))))
-    ∙ or_associates (told old a) (option_map (kept_place table.names) (row_at table.rows.items a)) x
-    ∙ ap (λ o. option_or (told old a) (option_or o x)) (table_tells table.names table.rows.items read a few is ∙ ap (λ n. place_in_unit n (result_ok read) a) number)
+    ∙ or_associates (kept_answer old a) (option_map (kept_place table.names) (row_at table.rows.items a)) x
+    ∙ ap (λ o. option_or (kept_answer old a) (option_or o x)) (table_tells table.names table.rows.items read a few is ∙ ap (λ n. place_in_unit n (result_ok read) a) number)
 
 -- the same of a table that was found
 pub added_some : (unit : ℕ) (program : UnitProgram) (old now : Tables) (table : UnitTable) (found : Option UnitTable) → found ≡ Some table → length old.units.items ≡ length old.rows.items
@@ -97,12 +96,12 @@ added_some unit program old now table found some sizes units rows number few is 
 
 -- what is then true of the tables
 pub gathered_by : (unit : ℕ) (program : UnitProgram) (old now : Tables) (table : UnitTable) (noted : BTreeSet ProgramKey) (key : ProgramKey) (is_new : Bool)
-    → IsGathered old.texts old → Notes old.programs noted key is_new → key ≡ key_of program → now.programs ≡ noted → now.texts ≡ old.texts
+    → IsGathered old.texts old → NotesProgram old.programs noted key is_new → key ≡ key_of program → now.programs ≡ noted → now.texts ≡ old.texts
     → now.units.items ≡ old.units.items ++ table.names ∷ [] → now.rows.items ≡ old.rows.items ++ table.rows ∷ []
     → AddsTable unit program old now → IsGathered old.texts now
 gathered_by unit program old now table noted key is_new h notes is programs texts units rows added =
-    let noted_here : Notes old.programs now.programs key is_new = subst (λ (p : BTreeSet ProgramKey). Notes old.programs p key is_new) (sym programs) notes in
-    let mine : Notes old.programs now.programs (key_of program) is_new = subst (λ (k : ProgramKey). Notes old.programs now.programs k is_new) is noted_here in
+    let noted_here : NotesProgram old.programs now.programs key is_new = subst (λ (p : BTreeSet ProgramKey). NotesProgram old.programs p key is_new) (sym programs) notes in
+    let mine : NotesProgram old.programs now.programs (key_of program) is_new = subst (λ (k : ProgramKey). NotesProgram old.programs now.programs k is_new) is noted_here in
     gathered_after old.texts unit program old now is_new refl texts
     (omega (arith, ap length units, ap length rows, length-append old.units.items (table.names ∷ []), length-append old.rows.items (table.rows ∷ []), h.sizes))
     mine added h
@@ -114,8 +113,8 @@ none_added s unit known none a x =
 
 -- one with a program adds its table
 pub some_added : (s : SectionsView) (unit : ℕ) (program : UnitProgram) (old now : Tables) → unit_program s unit ≡ Some program → old.texts ≡ s → AddsTable unit program old now
-    → AddedTo unit (unit_table s unit) (told old) (told now)
+    → AddedTo unit (unit_table s unit) (kept_answer old) (kept_answer now)
 some_added s unit program old now some texts added a x =
     added a x
-    ∙ ap (λ (t : SectionsView). option_or (told old a) (option_or (place_in_unit unit (table_at t (key_of program)) a) x)) texts
-    ∙ ap (λ p. option_or (told old a) (option_or (place_in_unit unit (option_and_then (λ program. table_at s (key_of program)) p) a) x)) (sym some)
+    ∙ ap (λ (t : SectionsView). option_or (kept_answer old a) (option_or (place_in_unit unit (table_at t (key_of program)) a) x)) texts
+    ∙ ap (λ p. option_or (kept_answer old a) (option_or (place_in_unit unit (option_and_then (λ program. table_at s (key_of program)) p) a) x)) (sym some)

@@ -22,13 +22,13 @@ abbrev pub was_run : BTreeSet ProgramKey → ProgramKey → Bool
 was_run programs key = contains key_cmp programs key
 
 -- A key is noted; it is new, or was noted before.
-pub record Notes (old new : BTreeSet ProgramKey) (key : ProgramKey) (is_new : Bool) : Type 0 where
+pub record NotesProgram (old new : BTreeSet ProgramKey) (key : ProgramKey) (is_new : Bool) : Type 0 where
   pub first : is_new ≡ not (was_run old key)
   pub others : (k : ProgramKey) → was_run new k ≡ true → (was_run old k ≡ true) ⊎ (k ≡ key)
 
 -- what the tables so far tell of an address
-abbrev pub told : Tables → ℕ → Option PlaceView
-told tables a = kept_place_of tables.units.items (map (λ v. v.items) tables.rows.items) a
+abbrev pub kept_answer : Tables → ℕ → Option PlaceView
+kept_answer tables a = kept_place_of tables.units.items (map (λ v. v.items) tables.rows.items) a
 
 -- The table of a program tells nothing new: whatever unit has it, its places stand behind those that
 -- are told.
@@ -42,15 +42,15 @@ pub record IsGathered (s : SectionsView) (tables : Tables) : Type 0 where
   pub texts : tables.texts ≡ s
   pub sizes : length tables.units.items ≡ length tables.rows.items
   pub run : (key : ProgramKey) → was_run tables.programs key ≡ true
-      → TellsNothing s (told tables) key
+      → TellsNothing s (kept_answer tables) key
 
 -- the table of a unit's program was added behind the others
 abbrev pub AddsTable : ℕ → UnitProgram → Tables → Tables → Type 0
-AddsTable unit program old new = (a : ℕ) (x : Option PlaceView) → option_or (told new a) x
-    ≡ option_or (told old a)
+AddsTable unit program old new = (a : ℕ) (x : Option PlaceView) → option_or (kept_answer new a) x
+    ≡ option_or (kept_answer old a)
     (option_or (place_in_unit unit (table_at old.texts (key_of program)) a) x)
 
 -- the tables of all units
 pub record IsWhole (s : SectionsView) (tables : Tables) : Type 0 where
   pub sizes : length tables.units.items ≡ length tables.rows.items
-  pub tells : (a : ℕ) → told tables a ≡ place_of s a
+  pub tells : (a : ℕ) → kept_answer tables a ≡ place_of s a

@@ -7,7 +7,7 @@ ghost use Rattle.elf_sections.specs.Shapes.{sections_view};
 ghost use Rattle.unit_headers.specs.Refusals.{Answers};
 ghost use Rattle.line_programs.specs.LineTables.{table_of};
 ghost use Rattle.address_lookup.specs.Kept.{kept_table, kept_table_view};
-ghost use Rattle.address_lookup.specs.Built.{AddsTable, IsGathered, Notes};
+ghost use Rattle.address_lookup.specs.Built.{AddsTable, IsGathered, NotesProgram};
 
 use crate::names::UnitNames;
 use crate::programs::{ProgramKey, UnitProgram};
@@ -96,7 +96,7 @@ pub(crate) struct Tables<'f> {
 
 /// Notes that a program is run; tells whether it is for the first time.
 fn note(programs: &mut BTreeSet<ProgramKey>, key: ProgramKey) -> Result<bool, AllocError>
-    ensures { IfOk result (Notes programs.old programs.new key) }
+    ensures { IfOk result (NotesProgram programs.old programs.new key) }
 {
     Ok(programs.insert(key)?)
 }

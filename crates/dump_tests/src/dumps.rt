@@ -1,7 +1,7 @@
 //! Dumps with several numbers of workers.
 
 use crate::files::{FIRST_TEXT, THREE_TEXTS, file_of, texts_of};
-use crate::gates::MeetingGate;
+use crate::gates::{CountingGate, MeetingGate};
 use crate::seats::{Ended, check_dump, check_file};
 use dump_workers::split_seats;
 use handle_cache::Handle;
@@ -69,6 +69,27 @@ fn units_stand_in_two_windows(rt: HostRuntime) -> Result<(), Fail> {
     let ended = Ended::Refused(270);
     check_file(&rt, alloc, file.as_slice(), 1, text.as_slice(), ended)?;
     check_file(&rt, alloc, file.as_slice(), 4, text.as_slice(), ended)
+}
+
+#[test]
+fn units_behind_a_refused_one_are_not_read(rt: HostRuntime) -> Result<(), Fail> {
+    let alloc = rt.alloc();
+    let file = file_of(alloc, 300, &[3, 200])?;
+    let text = texts_of(alloc, 3)?;
+    let (handle, first) = Handle::open(alloc, file.as_slice(), 1)?;
+    let mut seats = split_seats(alloc, &handle, first, 1)?;
+    let gate = CountingGate::new();
+    check_dump(
+        &rt,
+        alloc,
+        &handle,
+        &mut seats,
+        &gate,
+        text.as_slice(),
+        Some(3),
+    );
+    assert_eq!(rt; gate.entered(), 4);
+    Ok(())
 }
 
 #[test]

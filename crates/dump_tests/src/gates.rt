@@ -1,4 +1,4 @@
-//! A gate that holds the first worker until another has come.
+//! A gate that holds the first worker until another has come, and one that counts.
 
 use dw_outside::Gate;
 use std::sync::atomic::{AtomicU32, Ordering};
@@ -44,4 +44,32 @@ impl Gate for MeetingGate {
     fn leave(&self, _worker: u32, _unit: u32) {
         self.inside.fetch_sub(1, Ordering::SeqCst);
     }
+}
+
+/// How often a worker was about to read a unit.
+#[derive(Drop)]
+pub(crate) struct CountingGate {
+    entered: AtomicU32,
+}
+
+impl CountingGate {
+    /// A gate at 0.
+    pub(crate) fn new() -> CountingGate {
+        CountingGate {
+            entered: AtomicU32::new(0),
+        }
+    }
+
+    /// How often.
+    pub(crate) fn entered(&self) -> u32 {
+        self.entered.load(Ordering::SeqCst)
+    }
+}
+
+impl Gate for CountingGate {
+    fn enter(&self, _worker: u32, _unit: u32) {
+        self.entered.fetch_add(1, Ordering::SeqCst);
+    }
+
+    fn leave(&self, _worker: u32, _unit: u32) {}
 }

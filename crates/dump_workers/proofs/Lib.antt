@@ -1,5 +1,7 @@
+pub mod AloneLaws
 pub mod EntryCounts
 pub mod UnitKeys
+pub mod RefusalLaws
 pub mod SeatLaws
 pub mod DumpLaws
 pub mod ReadingLaws

@@ -179,7 +179,7 @@ ok_both (Err e) P P' Q p p' after = tt
 
 -- # Before the first window
 
-pub stands_first : (d : DrawsView) (v : SeatView) → IsSeatOf d v → v.knows ≡ first_seat d.sizes → d.sizes.seats ≡ MOST_SEATS → StandsBefore d 0 v
+pub stands_first : (d : DrawsView) (v : SeatView) → IsSeatOf d v → v.knows ≡ first_seat d.sizes d.tag → d.sizes.seats ≡ MOST_SEATS → StandsBefore d 0 v
 stands_first d v of_draws is seats =
     let numbers : length v.knows.numbers ≡ 1 = ap (λ (x : DrawView). length x.numbers) is in
     let spare : v.knows.spare ≡ d.sizes.seats - 1 = ap (λ (x : DrawView). x.spare) is in

@@ -52,6 +52,10 @@ pub record KnowsFile (s : SectionsView) (known : List ℕ) : Type 0 where
 abbrev pub NotesUnit : SectionsView → ℕ → PassView → Type 0
 NotesUnit s unit p = (k : ℕ) → IsUnitKey s unit k → Notes (front_keys p) (is_spent p) k
 
+-- the same of all units of a file
+abbrev pub NotesUnits : SectionsView → PassView → Type 0
+NotesUnits s p = (unit : ℕ) → unit < unit_count s.info s.order → NotesUnit s unit p
+
 -- What reading units of a file, of which none is refused, makes of a pass and of a counter: its own entries gain keys
 -- that the file uses, and where it knew them all nothing is counted.
 pub record ReadsUnits (s : SectionsView) (p q : PassView) (before after : ℕ) : Type 0 where

@@ -3,6 +3,7 @@ pub mod FileKeys
 pub mod TableKeys
 pub mod Ends
 pub mod Dumps
+pub mod RefusedUnits
 pub mod Readings
 pub mod Seats
 pub mod Passes

@@ -5,13 +5,15 @@ use Rattle.unit_draws.specs.Windows.{IsUnitOfWindow}
 use Rattle.unit_headers.specs.Headers.{unit_count}
 use Rattle.dump_workers.specs.declared.reading.Reading.{Reading}
 use Rattle.dump_workers.specs.declared.reading.UnitRead.{UnitRead}
-use Rattle.dump_workers.specs.declared.reading.UnitRead.TheVariants.{Whole, Refused}
+use Rattle.dump_workers.specs.declared.reading.UnitRead.TheVariants.{Whole, Refused, Skipped}
+use Rattle.dump_workers.specs.RefusedUnits.{IsBehindRefused}
 use Rattle.dump_workers.specs.UnitDumps.{unit_dump, entry_count}
 
--- this was read of the unit: its text and how many entries it has, or its refusal
+-- this was read of the unit: its text and how many entries it has, or its refusal; or nothing, behind a refused unit
 abbrev pub IsRead : SectionsView → ℕ → UnitRead → Type 0
 IsRead s unit (Whole text entries) = (unit_dump s unit ≡ Ok text.items) × (entries ≡ entry_count s unit)
 IsRead s unit (Refused fault) = unit_dump s unit ≡ Err fault
+IsRead s unit Skipped = IsBehindRefused s unit
 
 -- what was read of a unit of the window
 pub record IsReading (s : SectionsView) (window : ℕ) (r : Reading) : Type 0 where

@@ -32,6 +32,12 @@ pub record ServesWindow (d : DrawsView) (s : SectionsView) (window : ℕ) (befor
   pub all : HasEverySeat v.knows → HasDrawnWindow v.knows window
   pub each : All (IsReading s window) readings
 
+-- a seat drew and saw end what it had
+pub record KeepsDrawn (before after : DrawView) : Type 0 where
+  pub numbers : KeepsNumbers before after
+  pub drawn : after.drawn ≡ before.drawn
+  pub ended : after.ended ≡ before.ended
+
 -- each unit that was read is noted by the pass
 abbrev pub NotesReadings : SectionsView → PassView → List Reading → Type 0
 NotesReadings s p readings = RefusesNone s → All (λ (r : Reading). NotesUnit s r.unit p) readings

@@ -12,8 +12,10 @@ ghost use Rattle.dump_workers.specs.Passes.{EachOwnsOnly, KeepsPasses};
 ghost use Rattle.dump_workers.specs.Seats.{EachBelongs, EachFollows, EachReads, SeatsNoteFile};
 ghost use Rattle.dump_workers.specs.Windows.{StandsBefore};
 
+use crate::alone::dump_alone;
 use crate::ends::{DumpEnd, DumpFault, Whole};
 use crate::printing::print_units;
+use crate::refused::{FileDraws, FileUnits};
 use crate::seat::DumpSeat;
 use crate::window::read_window;
 use dw_outside::{Gate, Sink};
@@ -30,7 +32,7 @@ fn dump_windows<'f, R: Threads + Sync, G: Gate + Sync, O: Sink, L: Send>(
     rt: &R,
     alloc: Global,
     handle: &Handle<'f>,
-    draws: &Draws,
+    draws: &FileDraws,
     first: DrawSeat,
     seats: &mut Vec<DumpSeat<'f, L>>,
     gate: &G,
@@ -41,6 +43,7 @@ fn dump_windows<'f, R: Threads + Sync, G: Gate + Sync, O: Sink, L: Send>(
     requires belong { EachBelongs handle.now seats.old.items }
     requires units { draws.now.sizes.units
         ≡ unit_count (sections_in handle.now).info (sections_in handle.now).order }
+    requires tag { draws.now.tag ≡ handle.now.file }
     requires stands { StandsBefore draws.now 0 first }
     ensures dump { Ends result (dump_of (sections_in handle.now))
         (O.held out.old) (O.held out.new) }
@@ -139,7 +142,11 @@ pub fn dump<'f, R: Threads + Sync, G: Gate + Sync, O: Sink, L: Send>(
     ensures noted { OnOk result (RefusesNone (sections_in handle.now)
         → SeatsNoteFile (sections_in handle.now) seats.new.items) }
 {
-    match Draws::new(alloc, handle.index().count(), MOST_SEATS) {
+    if seats.len() == 1 {
+        return dump_alone(alloc, handle, seats, gate, out);
+    }
+    let units = FileUnits::of(handle);
+    match Draws::new(alloc, handle.index().count(), MOST_SEATS, &units) {
         Ok((draws, first)) => dump_windows(rt, alloc, handle, &draws, first, seats, gate, out),
         Err(_) => Err(DumpFault::OutOfMemory),
     }

@@ -8,12 +8,13 @@ ghost use Rattle.dump_workers.specs.Seats.{DumpSeatView, SameSeat};
 ghost use Rattle.dump_workers.specs.Windows.{EachComesBack, EachNotes, IsDrawnWork, IsGathered, IsHandedWork, MayJoinWork, SomeNotesReadings, with_spare};
 
 use crate::reading::Reading;
+use crate::refused::FileDraws;
 use crate::seat::{DumpSeat, Work};
 use std::alloc::AllocError;
-use unit_draws::{DrawSeat, Draws};
+use unit_draws::DrawSeat;
 
 /// Gives the first seat of a dump the first draw seat, and each other one a draw seat that is split off it.
-pub(crate) fn hand_out<'f, L>(draws: &Draws, first: DrawSeat, seats: &mut Vec<DumpSeat<'f, L>>)
+pub(crate) fn hand_out<'f, L>(draws: &FileDraws, first: DrawSeat, seats: &mut Vec<DumpSeat<'f, L>>)
     requires of { IsSeatOf draws.now first }
     requires number { first.knows.number ≡ 0 }
     requires spare { length seats.old.items ≤ 1 + first.knows.spare }
@@ -40,7 +41,7 @@ pub(crate) fn hand_out<'f, L>(draws: &Draws, first: DrawSeat, seats: &mut Vec<Du
 /// # Errors
 /// Want of memory, here or in a worker.
 pub(crate) fn gather<'f, L>(
-    draws: &Draws,
+    draws: &FileDraws,
     seats: &mut Vec<DumpSeat<'f, L>>,
 ) -> Result<(DrawSeat, Vec<Reading>), AllocError>
     requires some { 0 < length seats.old.items }

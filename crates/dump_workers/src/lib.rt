@@ -7,6 +7,7 @@
 //! `dump_of` in `specs/Dumps.antt`, which reads unit after unit anew.
 #![tactic(auto)]
 
+mod alone;
 mod ends;
 mod file_dump;
 mod hands;
@@ -15,6 +16,7 @@ mod passes;
 mod printing;
 mod publish;
 mod reading;
+mod refused;
 mod seat;
 mod serving;
 mod unit;

@@ -37,7 +37,7 @@ fn find_reading(readings: &[Reading], unit: u32) -> &UnitRead
 ///
 /// # Errors
 /// Those of the sink.
-fn print_text<O: Sink>(text: &[u8], out: &mut O) -> Result<(), DumpFault>
+pub(crate) fn print_text<O: Sink>(text: &[u8], out: &mut O) -> Result<(), DumpFault>
     ensures whole { OnOk result (Gains (O.held out.old) (O.held out.new) text.now) }
     ensures part { OnErr result (GainsPart (O.held out.old) (O.held out.new) text.now) }
     ensures cause { HasCause dump_faults.WriteFault (O.faults out.old) (O.faults out.new) result }
@@ -89,6 +89,8 @@ pub(crate) fn print_units<O: Sink>(
                 }
                 *entries += u64::from(*count);
             }
+            // the printing ends at the refused unit before it
+            UnitRead::Skipped => return Ok(None),
             UnitRead::Refused(fault) => {
                 return Ok(Some(RefusedUnit {
                     unit,

@@ -14,6 +14,8 @@ pub enum UnitRead {
     },
     /// Its first fault.
     Refused(Fault),
+    /// Nothing: a unit of its window before it is refused.
+    Skipped,
 }
 
 /// A unit that was read.

@@ -97,7 +97,7 @@ fn text_of(
 /// # Errors
 /// The first fault of the unit, or want of memory.
 #[tactic(auto, unfolding(crate::specs::UnitDumps::unit_dump, crate::specs::UnitDumps::unit_entries, crate::specs::UnitDumps::entry_count, entry_tree::specs::Units::unit_facts))]
-fn read_text<'f, L>(
+pub(crate) fn read_text<'f, L>(
     alloc: Global,
     arena: &Bump,
     handle: &Handle<'f>,
@@ -112,6 +112,7 @@ fn read_text<'f, L>(
         (unit_dump (sections_in handle.now) unit) }
     ensures entries { IfOk result
         (λ read. read.entries ≡ entry_count (sections_in handle.now) unit) }
+    ensures few { IfOk result (λ read. read.entries < 2 ^ 32) }
     ensures belongs { Belongs handle.now pass.new }
     ensures follows { Follows pass.old pass.new }
     ensures noted { OnOk result (NotesUnit (sections_in handle.now) unit pass.new) }

@@ -11,13 +11,14 @@ ghost use Rattle.dump_workers.specs.Windows.{NoteWindow, ReadsWindow, StandsBefo
 
 use crate::hands::{gather, hand_out};
 use crate::reading::Reading;
+use crate::refused::FileDraws;
 use crate::seat::DumpSeat;
 use crate::worker::serve_all;
 use dw_outside::Gate;
 use handle_cache::Handle;
 use std::alloc::{AllocError, Global};
 use std::thread::Threads;
-use unit_draws::{DrawSeat, Draws};
+use unit_draws::DrawSeat;
 
 /// Reads the units of a window, each by the seat that drew it.
 ///
@@ -27,7 +28,7 @@ pub(crate) fn read_window<'f, R: Threads + Sync, G: Gate + Sync, L: Send>(
     rt: &R,
     alloc: Global,
     handle: &Handle<'f>,
-    draws: &Draws,
+    draws: &FileDraws,
     gate: &G,
     window: u32,
     first: DrawSeat,
@@ -38,6 +39,7 @@ pub(crate) fn read_window<'f, R: Threads + Sync, G: Gate + Sync, L: Send>(
     requires belong { EachBelongs handle.now seats.old.items }
     requires units { draws.now.sizes.units
         ≡ unit_count (sections_in handle.now).info (sections_in handle.now).order }
+    requires tag { draws.now.tag ≡ handle.now.file }
     requires window { window < window_count draws.now.sizes.units }
     requires windows { window < 1024 }
     requires stands { StandsBefore draws.now window first }

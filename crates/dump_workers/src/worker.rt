@@ -1,17 +1,20 @@
 //! What one worker does in a window: it draws units, and reads each that it drew.
 
-ghost use Rattle.std.specs.Prelude.{◌≡◌, ◌<◌, ◌≤◌, ◌++◌, ◌∷◌, [], ℕ, IfOk, OnOk, length, slice_index_or};
+ghost use Rattle.std.specs.Prelude.{◌≡◌, ◌<◌, ◌≤◌, ◌++◌, ◌∷◌, [], ℕ, IfOk, OnOk, IsTrue, length, slice_index_or};
 ghost use Rattle.unit_draws.specs.Seats.{IsSeatOf, occurrences};
-ghost use Rattle.unit_draws.specs.Windows.{window_count};
+ghost use Rattle.unit_draws.specs.Windows.{IsUnitOfWindow, window_count};
 ghost use Rattle.unit_headers.specs.Headers.{unit_count};
 ghost use Rattle.map_cells.specs.Seen.{Follows};
 ghost use Rattle.handle_cache.specs.Handles.{Belongs, sections_in};
 ghost use Rattle.dump_workers.specs.declared.serving.TheConstants.{MOST_WORKERS};
-ghost use Rattle.dump_workers.specs.FileKeys.{ReadsUnits};
+ghost use Rattle.dump_workers.specs.FileKeys.{NotesUnit, ReadsUnits, RefusesNone};
+ghost use Rattle.dump_workers.specs.Readings.{IsRead};
+ghost use Rattle.dump_workers.specs.RefusedUnits.{IsBehindRefused};
 ghost use Rattle.dump_workers.specs.Seats.{DumpSeatView};
-ghost use Rattle.dump_workers.specs.Windows.{LeavesServed, MayServe, NotesReadings, ServesWindow};
+ghost use Rattle.dump_workers.specs.Windows.{KeepsDrawn, LeavesServed, MayServe, NotesReadings, ServesWindow};
 
-use crate::reading::Reading;
+use crate::reading::{Reading, UnitRead};
+use crate::refused::FileDraws;
 use crate::seat::{DumpSeat, Work};
 use crate::serving::{Serves, serve_each};
 use crate::unit::read_unit;
@@ -22,7 +25,7 @@ use entry_tree::renew;
 use handle_cache::{Handle, HandlePass};
 use std::alloc::{AllocError, Global};
 use std::thread::Threads;
-use unit_draws::{DrawSeat, Draws};
+use unit_draws::DrawSeat;
 
 /// Puts what was read of a unit at the list's end.
 fn add_reading(readings: &mut Vec<Reading>, reading: Reading) -> Result<(), AllocError>
@@ -34,6 +37,98 @@ fn add_reading(readings: &mut Vec<Reading>, reading: Reading) -> Result<(), Allo
     }
 }
 
+/// Whether a unit of the window before this one is refused, as far as the seats have told.
+fn is_behind_refused<'f>(
+    handle: &Handle<'f>,
+    draws: &FileDraws,
+    seat: &mut DrawSeat,
+    window: u32,
+    unit: u32,
+) -> bool
+    requires of { IsSeatOf draws.now seat.old }
+    requires tag { draws.now.tag ≡ handle.now.file }
+    requires window { window < window_count draws.now.sizes.units }
+    requires unit { IsUnitOfWindow draws.now.sizes.units window unit }
+    ensures of { IsSeatOf draws.now seat.new }
+    ensures same { seat.new.knows ≡ seat.old.knows }
+    ensures behind { IsTrue result → IsBehindRefused (sections_in handle.now) unit }
+{
+    handle.recall();
+    match draws.least(seat, window) {
+        Some(least) => least < unit,
+        None => false,
+    }
+}
+
+/// Tells the draws of a unit that is refused.
+fn tell_refused<'f>(handle: &Handle<'f>, draws: &FileDraws, seat: &mut DrawSeat, reading: &Reading)
+    requires of { IsSeatOf draws.now seat.old }
+    requires tag { draws.now.tag ≡ handle.now.file }
+    requires counted { reading.now.unit < draws.now.sizes.units }
+    requires read { IsRead (sections_in handle.now) reading.now.unit reading.now.read }
+    ensures of { IsSeatOf draws.now seat.new }
+    ensures keeps { KeepsDrawn seat.old.knows seat.new.knows }
+{
+    handle.recall();
+    match &reading.read {
+        UnitRead::Refused(_) => draws.lower(seat, reading.unit),
+        UnitRead::Whole { .. } => {}
+        UnitRead::Skipped => {}
+    }
+}
+
+/// Reads a unit that was drawn, and tells of it where it is refused. Behind a refused unit of its window nothing is
+/// read.
+///
+/// # Errors
+/// Want of memory.
+fn read_drawn<'f, G: Gate, L>(
+    alloc: Global,
+    arena: &Bump,
+    handle: &Handle<'f>,
+    draws: &FileDraws,
+    gate: &G,
+    worker: u32,
+    window: u32,
+    unit: u32,
+    pass: &mut HandlePass<'f>,
+    steps: &mut Steps<L>,
+    seat: &mut DrawSeat,
+) -> Result<Reading, AllocError>
+    requires belongs { Belongs handle.now pass.old }
+    requires units { draws.now.sizes.units
+        ≡ unit_count (sections_in handle.now).info (sections_in handle.now).order }
+    requires tag { draws.now.tag ≡ handle.now.file }
+    requires of { IsSeatOf draws.now seat.old }
+    requires window { window < window_count draws.now.sizes.units }
+    requires unit { IsUnitOfWindow draws.now.sizes.units window unit }
+    ensures unit { IfOk result (λ r. r.unit ≡ unit) }
+    ensures read { IfOk result (λ r. IsRead (sections_in handle.now) unit r.read) }
+    ensures belongs { Belongs handle.now pass.new }
+    ensures follows { Follows pass.old pass.new }
+    ensures noted { OnOk result (RefusesNone (sections_in handle.now)
+        → NotesUnit (sections_in handle.now) unit pass.new) }
+    ensures reads { OnOk result (ReadsUnits (sections_in handle.now) pass.old pass.new
+        steps.old steps.new) }
+    ensures of { IsSeatOf draws.now seat.new }
+    ensures keeps { KeepsDrawn seat.old.knows seat.new.knows }
+{
+    if is_behind_refused(handle, draws, seat, window, unit) {
+        let read = UnitRead::Skipped;
+        return Ok(Reading { unit, read });
+    }
+    gate.enter(worker, unit);
+    let read = read_unit(alloc, arena, handle, pass, unit, steps);
+    gate.leave(worker, unit);
+    match read {
+        Ok(reading) => {
+            tell_refused(handle, draws, seat, &reading);
+            Ok(reading)
+        }
+        Err(error) => Err(error),
+    }
+}
+
 /// Draws units of the window until none is left, and reads each of them, in an arena that is used for one
 /// after another.
 ///
@@ -42,7 +137,7 @@ fn add_reading(readings: &mut Vec<Reading>, reading: Reading) -> Result<(), Allo
 fn work_window<'f, G: Gate, L>(
     alloc: Global,
     handle: &Handle<'f>,
-    draws: &Draws,
+    draws: &FileDraws,
     gate: &G,
     worker: u32,
     window: u32,
@@ -53,6 +148,7 @@ fn work_window<'f, G: Gate, L>(
     requires belongs { Belongs handle.now pass.old }
     requires units { draws.now.sizes.units
         ≡ unit_count (sections_in handle.now).info (sections_in handle.now).order }
+    requires tag { draws.now.tag ≡ handle.now.file }
     requires of { IsSeatOf draws.now seat.old }
     requires window { window < window_count draws.now.sizes.units }
     requires open { occurrences window seat.old.knows.ended ≡ 0 }
@@ -68,9 +164,9 @@ fn work_window<'f, G: Gate, L>(
     let mut arena = Bump::new(alloc);
     let mut readings = Vec::new(alloc);
     'units: while let Some(unit) = draws.draw(seat, window) {
-        gate.enter(worker, unit);
-        let read = read_unit(alloc, &arena, handle, pass, unit, steps);
-        gate.leave(worker, unit);
+        let read = read_drawn(
+            alloc, &arena, handle, draws, gate, worker, window, unit, pass, steps, seat,
+        );
         let reading = match read {
             Ok(reading) => reading,
             Err(_) => return Err(AllocError),
@@ -89,11 +185,12 @@ fn work_window<'f, G: Gate, L>(
 struct WindowWork<'w, 'f, G> {
     alloc: Global,
     handle: &'w Handle<'f>,
-    draws: &'w Draws,
+    draws: &'w FileDraws,
     gate: &'w G,
     window: u32,
     ghost units: { draws.now.sizes.units
         ≡ unit_count (sections_in handle.now).info (sections_in handle.now).order },
+    ghost tag: { draws.now.tag ≡ handle.now.file },
     ghost inside: { window < window_count draws.now.sizes.units },
 }
 
@@ -101,7 +198,7 @@ struct WindowWork<'w, 'f, G> {
 fn serve_seat<'f, G: Gate, L>(
     alloc: Global,
     handle: &Handle<'f>,
-    draws: &Draws,
+    draws: &FileDraws,
     gate: &G,
     worker: u32,
     window: u32,
@@ -110,6 +207,7 @@ fn serve_seat<'f, G: Gate, L>(
     requires serve { MayServe handle.now draws.now window seat.old }
     requires units { draws.now.sizes.units
         ≡ unit_count (sections_in handle.now).info (sections_in handle.now).order }
+    requires tag { draws.now.tag ≡ handle.now.file }
     requires window { window < window_count draws.now.sizes.units }
     ensures { LeavesServed handle.now draws.now window seat.old seat.new }
 {
@@ -145,7 +243,8 @@ impl<'w, 'f, G: Gate, L> Serves<DumpSeat<'f, L>> for WindowWork<'w, 'f, G> {
     ghost use Rattle.dump_workers.specs.declared.serving.TheConstants.{MOST_WORKERS};
     ghost use Rattle.dump_workers.specs.Windows.{LeavesServed, MayServe};
 
-    ghost accepts = { λ w i seat. (i < MOST_WORKERS) × MayServe w.handle.now w.draws.now w.window seat };
+    ghost accepts = { λ w i seat. (i < MOST_WORKERS)
+        × MayServe w.handle.now w.draws.now w.window seat };
 
     ghost gives = { λ w i old new. LeavesServed w.handle.now w.draws.now w.window old new };
 
@@ -167,7 +266,7 @@ pub(crate) fn serve_all<'f, R: Threads + Sync, G: Gate + Sync, L: Send>(
     rt: &R,
     alloc: Global,
     handle: &Handle<'f>,
-    draws: &Draws,
+    draws: &FileDraws,
     gate: &G,
     window: u32,
     seats: &mut Vec<DumpSeat<'f, L>>,
@@ -177,6 +276,7 @@ pub(crate) fn serve_all<'f, R: Threads + Sync, G: Gate + Sync, L: Send>(
         → MayServe handle.now draws.now window (slice_index_or seats.old.items i d) }
     requires units { draws.now.sizes.units
         ≡ unit_count (sections_in handle.now).info (sections_in handle.now).order }
+    requires tag { draws.now.tag ≡ handle.now.file }
     requires window { window < window_count draws.now.sizes.units }
     ensures length { length seats.new.items ≡ length seats.old.items }
     ensures each { (i : ℕ) (d : DumpSeatView) → i < length seats.old.items

@@ -8,8 +8,6 @@
 mod attributes;
 mod forms;
 mod tags;
-#[cfg(test)]
-mod tests;
 mod texts;
 
 pub use attributes::attribute_name;

@@ -15,12 +15,8 @@ mod faultless;
 mod file_source;
 mod gates;
 mod memory;
-#[cfg(test)]
-mod real_tests;
 mod stops;
 mod stream_sink;
-#[cfg(test)]
-mod tests;
 mod traits;
 mod whole;
 

@@ -10,3 +10,4 @@ pub mod Output
 pub mod RefusalLines
 pub mod Parts
 pub mod Queries
+pub mod WalkedTables

@@ -30,10 +30,12 @@ mod tables;
 mod unit_reader;
 mod unit_texts;
 mod units;
+mod walked_table;
 
 pub use elf_builder::ElfBuilder;
 pub use endings::RunEnd;
 pub use laws::texts_before_the_first_refusal;
 pub use parts::{Part, append_part};
 pub use program::run;
+pub use refusal_lines::file_number;
 pub use unit_reader::UnitReader;

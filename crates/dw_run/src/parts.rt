@@ -10,7 +10,7 @@ use bumpalo::Bump;
 use line_text::write_lines_with;
 use std::alloc::Global;
 use unit_headers::UnitRefusal;
-use unit_text::{write_lists_with, write_unit_line};
+use unit_text::write_unit_line;
 
 /// A part of a unit.
 #[derive(Clone, Copy, Debug, PartialEq, Eq)]
@@ -27,7 +27,7 @@ pub enum Part {
 ///
 /// # Errors
 /// The first fault of the part, or want of memory; `out` is then as it was.
-#[tactic(auto, unfolding(crate::specs::Parts::unit_part, crate::specs::Parts::part_of, crate::specs::Parts::unit_of, entry_tree::specs::Units::unit_facts))]
+#[tactic(auto, unfolding(crate::specs::Parts::unit_part, crate::specs::Parts::part_of, crate::specs::Parts::facts_and_entries, entry_tree::specs::Units::unit_facts))]
 pub fn append_part(
     alloc: Global,
     part: Part,
@@ -49,8 +49,7 @@ pub fn append_part(
         }
         Part::Lists => {
             let facts = reader.facts(unit)?;
-            let entries = reader.entries(arena, &header)?;
-            write_lists_with(alloc, &mut reader.lists, &header, &facts, entries, out)
+            reader.write_lists(alloc, arena, &header, &facts, out)
         }
     }
 }

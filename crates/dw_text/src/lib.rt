@@ -12,8 +12,6 @@ mod escapes;
 mod glyphs;
 mod line_buffer;
 mod numbers;
-#[cfg(test)]
-mod tests;
 mod whole;
 mod words;
 

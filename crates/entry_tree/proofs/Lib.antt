@@ -1,6 +1,6 @@
 pub mod AreaSteps
-pub mod AttrSteps
 pub mod FirstCode
+pub mod KeptLaws
 pub mod KeyLaws
 pub mod MemoLaws
 pub mod RootLaws

@@ -1,5 +1,6 @@
 pub mod Views
 pub mod Entries
+pub mod Kept
 pub mod Keys
 pub mod Facts
 pub mod Tiles

@@ -7,11 +7,13 @@ ghost use Rattle.elf_sections.specs.Shapes.{sections_view, AreShort};
 ghost use Rattle.form_values.specs.View.{widths_of};
 ghost use Rattle.unit_headers.specs.Refusals.{Answers, AnswersAt};
 ghost use Rattle.entry_tree.specs.Views.{entry_view, stepped_entries, stepped_view};
-ghost use Rattle.entry_tree.specs.Entries.{depth_behind, behind_entry, coded_at, entry_at, entries_in};
+ghost use Rattle.entry_tree.specs.Entries.{depth_behind, behind_entry};
+ghost use Rattle.entry_tree.specs.Kept.{kept_coded_at, kept_entries, kept_entries_in, kept_entry_at};
 ghost use Rattle.entry_tree.specs.Keys.{GainsOnly, IsFoundKey, IsKeyAmong, KeysKnown, KeysNoted};
 ghost use Rattle.entry_tree.specs.Remembered.{Remembers};
 ghost use Rattle.entry_tree.specs.Units.{IsUnitOf, entries_of};
 
+use crate::attr_names::{AllAttrs, AttrNames};
 use crate::attributes::read_attrs;
 use crate::entry::{Entry, Stepped};
 use crate::remembered::{DeclMemo, find_remembered};
@@ -33,8 +35,8 @@ fn depth_behind(children: bool, depth: u32) -> u32
 }
 
 /// The entry at `place`, whose code isn't 0 and ends where the cut stands, and the depth behind it.
-#[tactic(auto, unfolding(crate::specs::Entries::coded_at))]
-fn read_coded<'a, 'f: 'a, D: Decls<'f>, L>(
+#[tactic(auto, unfolding(crate::specs::Kept::kept_coded_at))]
+fn read_coded<'a, 'f: 'a, D: Decls<'f>, K: AttrNames, L>(
     memo: &mut DeclMemo<'a>,
     decls: &mut D,
     header: &UnitHeader,
@@ -52,7 +54,7 @@ fn read_coded<'a, 'f: 'a, D: Decls<'f>, L>(
         (D.spent decls.old) memo.old.slots.items }
     ensures entry { AnswersAt (λ r. (r.0, entry_view r.1))
         result (λ s. behind_entry depth
-        (coded_at (D.section decls.old) header.now.«abbrev» (widths_of header.now)
+        (kept_coded_at K.keeps (D.section decls.old) header.now.«abbrev» (widths_of header.now)
         depth place code s)) cut.old cut.new }
     ensures forward { IfOk result
         (λ r. (cut.old.place ≤ cut.new.place) × (r.0 ≤ depth + 1) × (r.1.code ≡ code)) }
@@ -69,7 +71,7 @@ fn read_coded<'a, 'f: 'a, D: Decls<'f>, L>(
         (D.seen decls.new) (D.spent decls.new) memo.new.slots.items) }
 {
     let declaration = find_remembered(memo, decls, header.abbrev, code, place, steps)?;
-    let attrs = read_attrs(memo.arena, cut, header, declaration.attrs())?;
+    let attrs = read_attrs::<K>(memo.arena, cut, header, declaration.attrs())?;
     let entry = Entry {
         place,
         depth,
@@ -81,8 +83,8 @@ fn read_coded<'a, 'f: 'a, D: Decls<'f>, L>(
 }
 
 /// What stands at a depth: a code 0, or an entry.
-#[tactic(auto, unfolding(crate::specs::Entries::entry_at))]
-fn read_entry<'a, 'f: 'a, D: Decls<'f>, L>(
+#[tactic(auto, unfolding(crate::specs::Kept::kept_entry_at))]
+fn read_entry<'a, 'f: 'a, D: Decls<'f>, K: AttrNames, L>(
     memo: &mut DeclMemo<'a>,
     decls: &mut D,
     header: &UnitHeader,
@@ -96,7 +98,8 @@ fn read_entry<'a, 'f: 'a, D: Decls<'f>, L>(
     requires remembers { Remembers (D.section decls.old) header.now.«abbrev» (D.seen decls.old)
         (D.spent decls.old) memo.old.slots.items }
     ensures entry { AnswersAt stepped_view result
-        (entry_at (D.section decls.old) header.now.«abbrev» (widths_of header.now) depth)
+        (kept_entry_at K.keeps (D.section decls.old) header.now.«abbrev» (widths_of header.now)
+        depth)
         cut.old cut.new }
     ensures forward { IfOk result (λ s.
         (cut.old.place + 1 ≤ cut.new.place) × (s.depth ≤ depth + 1)) }
@@ -123,7 +126,9 @@ fn read_entry<'a, 'f: 'a, D: Decls<'f>, L>(
             entry: None,
         });
     }
-    let (depth, entry) = read_coded(memo, decls, header, cut, depth, place, code, steps)?;
+    let (depth, entry) = read_coded::<D, K, L>(
+        memo, decls, header, cut, depth, place, code, steps,
+    )?;
     Ok(Stepped {
         depth,
         entry: Some(entry),
@@ -147,9 +152,23 @@ fn add_entry<'a>(
     }
 }
 
+/// For so many bytes of entries there is room for one entry at first: most take more, so that the list
+/// is seldom outgrown, and what isn't written costs nothing.
+const BYTES_AN_ENTRY: u64 = 8;
+
+/// An empty list with room for the entries in so many bytes, or with none where the arena has no room.
+fn room_for_entries<'a>(arena: &'a Bump, bytes: u64) -> Vec<Entry<'a>, &'a Bump>
+    ensures { result.items ≡ [] }
+{
+    match Vec::with_capacity(arena, (bytes / BYTES_AN_ENTRY) as usize) {
+        Ok(entries) => entries,
+        Err(_) => Vec::new(arena),
+    }
+}
+
 /// The entries from the cut's place to its end.
-#[tactic(auto, unfolding(crate::specs::Entries::entries_in))]
-fn read_area<'a, 'f: 'a, D: Decls<'f>, L>(
+#[tactic(auto, unfolding(crate::specs::Kept::kept_entries_in))]
+fn read_area<'a, 'f: 'a, D: Decls<'f>, K: AttrNames, L>(
     arena: &'a Bump,
     decls: &mut D,
     header: &UnitHeader,
@@ -160,8 +179,8 @@ fn read_area<'a, 'f: 'a, D: Decls<'f>, L>(
     requires size { IsAddressSize header.now.address_size }
     requires short { cut.old.end < 2 ^ 32 }
     ensures entries { Answers (λ s. map entry_view s.now)
-        result (entries_in (D.section decls.old) header.now.«abbrev» (widths_of header.now)
-        cut.old) }
+        result (kept_entries_in K.keeps (D.section decls.old) header.now.«abbrev»
+        (widths_of header.now) cut.old) }
     ensures follows { D.follows decls.old decls.new }
     ensures placed { GainsOnly (IsFoundKey (D.section decls.old) header.now.«abbrev»)
         (D.placed decls.old) (D.placed decls.new) }
@@ -175,7 +194,7 @@ fn read_area<'a, 'f: 'a, D: Decls<'f>, L>(
         (λ s. KeysKnown (D.seen decls.old) header.now.«abbrev» (map entry_view s.now)
         → steps.new ≡ steps.old) }
 {
-    let mut entries: Vec<Entry<'a>, &'a Bump> = Vec::new(arena);
+    let mut entries = room_for_entries(arena, cut.left());
     let mut memo = DeclMemo::new(arena, cut.left());
     let mut depth = 0;
     let turns = cut.left();
@@ -183,7 +202,7 @@ fn read_area<'a, 'f: 'a, D: Decls<'f>, L>(
         if cut.left() == 0 {
             return Ok(into_bump_slice(entries));
         }
-        let stepped = match read_entry(&mut memo, decls, header, cut, depth, steps) {
+        let stepped = match read_entry::<D, K, L>(&mut memo, decls, header, cut, depth, steps) {
             Ok(stepped) => stepped,
             Err(refusal) => return Err(refusal),
         };
@@ -232,6 +251,39 @@ pub fn read_entries<'a, 'f: 'a, D: Decls<'f>, L>(
         (λ s. KeysKnown (D.seen decls.old) header.now.«abbrev» (map entry_view s.now)
         → steps.new ≡ steps.old) }
 {
+    read_kept_entries::<D, AllAttrs, L>(arena, decls, header, sections, steps)
+}
+
+/// Reads the entries of a unit as [`read_entries`] does, and keeps of each the attributes that `K` names,
+/// in their order. The values of the others are read and refused as there.
+///
+/// # Errors
+/// Those of [`read_entries`].
+pub fn read_kept_entries<'a, 'f: 'a, D: Decls<'f>, K: AttrNames, L>(
+    arena: &'a Bump,
+    decls: &mut D,
+    header: &UnitHeader,
+    sections: &Sections<'f>,
+    steps: &mut Steps<L>,
+) -> Result<&'a [Entry<'a>], UnitRefusal>
+    requires section { D.section decls.old ≡ (sections_view sections.now).«abbrev» }
+    requires unit { IsUnitOf (sections_view sections.now) header.now }
+    requires short { AreShort (sections_view sections.now) }
+    ensures entries { Answers (λ s. map entry_view s.now)
+        result (kept_entries K.keeps (entries_of (sections_view sections.entry.now) header.now)) }
+    ensures follows { D.follows decls.old decls.new }
+    ensures placed { GainsOnly (IsFoundKey (D.section decls.old) header.now.«abbrev»)
+        (D.placed decls.old) (D.placed decls.new) }
+    ensures keys { IfOk result
+        (λ s. GainsOnly (IsKeyAmong header.now.«abbrev» (map entry_view s.now)) (D.placed decls.old)
+        (D.placed decls.new)) }
+    ensures noted { IfOk result
+        (λ s. KeysNoted (D.seen decls.new) (D.spent decls.new)
+        header.now.«abbrev» (map entry_view s.now)) }
+    ensures known { IfOk result
+        (λ s. KeysKnown (D.seen decls.old) header.now.«abbrev» (map entry_view s.now)
+        → steps.new ≡ steps.old) }
+{
     let mut cut = Cut::new(sections.info, header.entries, header.end, sections.order);
-    read_area(arena, decls, header, &mut cut, steps)
+    read_area::<D, K, L>(arena, decls, header, &mut cut, steps)
 }

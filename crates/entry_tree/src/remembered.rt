@@ -124,6 +124,7 @@ impl<'a> DeclMemo<'a> {
 
 /// The declaration of the entry at `place`, whose code isn't 0, as `find_declaration` gives it.
 /// `decls` is asked for one that isn't remembered.
+#[inline(always)]
 pub(crate) fn find_remembered<'a, 'f: 'a, D: Decls<'f>, L>(
     memo: &mut DeclMemo<'a>,
     decls: &mut D,

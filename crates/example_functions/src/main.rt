@@ -11,17 +11,12 @@ ghost use Rattle.entry_tree.specs.Units.{IsUnitOf};
 use abbrev_decl::{Scanner, Steps};
 use anyhow::{Context, Result};
 use bumpalo::Bump;
-use dw_numbers::attribute;
+use dw_numbers::{attribute, tag};
 use elf_sections::{Elf, Sections};
 use entry_tree::{Entry, read_entries, root_facts};
 use form_values::{Bases, Raw, resolve_address, resolve_text};
 use std::{env, fs};
 use unit_headers::{UnitHeader, UnitIndex};
-
-/// `DW_TAG_subprogram` and `DW_AT_name` (DWARF 5 tables 7.3 and 7.5).
-const SUBPROGRAM: u64 = 0x2e;
-
-const NAME: u64 = 0x03;
 
 fn main(rt: HostRuntime) -> Result<()> {
     let alloc = rt.alloc();
@@ -53,7 +48,7 @@ fn print_functions<R: Print + AllocGlobal>(
     let arena = Bump::new(rt.alloc());
     let entries = read_entries(&arena, &mut declarations, header, sections, &mut steps)?;
     for entry in entries {
-        if entry.tag == SUBPROGRAM {
+        if entry.tag == tag::SUBPROGRAM {
             print_function(rt, sections, header, &facts.bases, entry)?;
         }
     }
@@ -86,7 +81,7 @@ fn name_of<'f>(
     bases: &Bases,
 ) -> Result<&'f str> {
     for attr in entry.attrs {
-        if attr.name == NAME {
+        if attr.name == attribute::NAME {
             match attr.raw {
                 Raw::Text(_) | Raw::TextOffset(_) | Raw::LineTextOffset(_) | Raw::TextIndex(_) => {
                     let text = resolve_text(&attr.raw, header, sections, bases)?;

@@ -2,14 +2,14 @@
 use Rattle.std.proofs.Common.{◌≡◌, ◌-◌, ◌≤◌, ◌<◌, ℕ, zero, suc, Bool, true, false, cond, nat_lt, leb, List, [], ◌∷◌, length, Option, None, refl, sym, ap, ◌∙◌, arith, get_or}
 use Rattle.std.specs.List.Sorted.{IsNonDecreasingBy, IsPartitionPoint}
 use Rattle.interval_index.specs.declared.boundaries.Boundary.{Boundary}
-use Rattle.interval_index.specs.Boundaries.{Ascends, owner_at, first_told}
+use Rattle.interval_index.specs.Boundaries.{AscendsBy, owner_at, first_covering}
 
-pub at_least : {X : Type 0} (number : X → ℕ) (low : ℕ) (xs : List X) → Ascends number low xs → (j : ℕ) (d : X) → j < length xs → low ≤ number (get_or xs j d)
+pub at_least : {X : Type 0} (number : X → ℕ) (low : ℕ) (xs : List X) → AscendsBy number low xs → (j : ℕ) (d : X) → j < length xs → low ≤ number (get_or xs j d)
 at_least number low [] h j d within = absurd (omega (arith, within))
 at_least number low (x ∷ xs) h zero d within = h.0
 at_least number low (x ∷ xs) h (suc j) d within = omega (arith, h.0, at_least number (number x) xs h.1 j d (omega (arith, within)))
 
-pub non_decreasing : {X : Type 0} (number : X → ℕ) (low : ℕ) (xs : List X) → Ascends number low xs → IsNonDecreasingBy number xs
+pub non_decreasing : {X : Type 0} (number : X → ℕ) (low : ℕ) (xs : List X) → AscendsBy number low xs → IsNonDecreasingBy number xs
 non_decreasing number low [] h i j d le within = absurd (omega (arith, within))
 non_decreasing number low (x ∷ xs) h zero zero d le within = omega arith
 non_decreasing number low (x ∷ xs) h zero (suc j) d le within = at_least number (number x) xs h.1 j d (omega (arith, within))
@@ -43,11 +43,11 @@ owner_behind owner (b ∷ list) n (suc m) e within low high =
 -- the same from what `partition_point` answers
 pub told_at : (list : List Boundary) (n count : ℕ) (e : Boundary) → 0 < count → count ≤ length list
     → IsPartitionPoint (λ (b : Boundary). leb b.from n ≡ true) (λ (b : Boundary). leb b.from n ≡ false) list count
-    → (get_or list (count - 1) e).owner ≡ first_told list n
+    → (get_or list (count - 1) e).owner ≡ first_covering list n
 told_at list n count e some within point =
     sym (owner_behind None list n (count - 1) e (omega (arith, some, within)) (λ k d le. point.0 k d (omega arith) (omega (arith, le, some))) (λ k d lt inside. point.1 k d (omega (arith, lt, some)) inside))
 
 pub told_nothing : (list : List Boundary) (n count : ℕ) → count ≡ 0
     → IsPartitionPoint (λ (b : Boundary). leb b.from n ≡ true) (λ (b : Boundary). leb b.from n ≡ false) list count
-    → None ≡ first_told list n
+    → None ≡ first_covering list n
 told_nothing list n count none point = sym (owner_before None list n (λ k d inside. point.1 k d (omega (arith, none)) inside))

@@ -5,19 +5,19 @@ use Rattle.std.proofs.Math.Seq.{take-length}
 use Rattle.std.proofs.lemmas.List.{take-append-drop, length-take-le}
 use Rattle.interval_index.specs.declared.interval.Interval.{Interval}
 use Rattle.interval_index.specs.declared.boundaries.Boundary.{Boundary}
-use Rattle.interval_index.specs.Intervals.{has, first_from}
-use Rattle.interval_index.specs.Boundaries.{Lays, Merges, first_told}
+use Rattle.interval_index.specs.Intervals.{has, first_interval_from}
+use Rattle.interval_index.specs.Boundaries.{Lays, Merges, first_covering}
 
 append_by : (test : Bool) (k : ℕ) (all xs ys : Option ℕ) → all ≡ option_or xs ys → cond test (Some k) all ≡ option_or (cond test (Some k) xs) ys
 append_by true k all xs ys e = refl
 append_by false k all xs ys e = e
 
-first_append : (k : ℕ) (xs ys : List Interval) (n : ℕ) → first_from k (xs ++ ys) n ≡ option_or (first_from k xs n) (first_from (k + length xs) ys n)
-first_append k [] ys n = let e : k ≡ k + 0 = omega arith in ap (λ (m : ℕ). first_from m ys n) e
+first_append : (k : ℕ) (xs ys : List Interval) (n : ℕ) → first_interval_from k (xs ++ ys) n ≡ option_or (first_interval_from k xs n) (first_interval_from (k + length xs) ys n)
+first_append k [] ys n = let e : k ≡ k + 0 = omega arith in ap (λ (m : ℕ). first_interval_from m ys n) e
 first_append k (x ∷ xs) ys n =
     let e : suc k + length xs ≡ k + suc (length xs) = omega arith in
-    append_by (has x n) k (first_from (suc k) (xs ++ ys) n) (first_from (suc k) xs n) (first_from (k + suc (length xs)) ys n)
-    (first_append (suc k) xs ys n ∙ ap (λ (m : ℕ). option_or (first_from (suc k) xs n) (first_from m ys n)) e)
+    append_by (has x n) k (first_interval_from (suc k) (xs ++ ys) n) (first_interval_from (suc k) xs n) (first_interval_from (k + suc (length xs)) ys n)
+    (first_append (suc k) xs ys n ∙ ap (λ (m : ℕ). option_or (first_interval_from (suc k) xs n) (first_interval_from m ys n)) e)
 
 rest_all : {X : Type 0} (m : ℕ) (xs : List X) → take (length xs - m) (drop m xs) ≡ drop m xs
 rest_all m xs = ap (λ (n : ℕ). take n (drop m xs)) (sym (length-drop m xs)) ∙ take-length (drop m xs)
@@ -28,10 +28,10 @@ halves_lay : (k m : ℕ) (intervals : List Interval) (first second merged : List
     → Merges (record { first = first; first_owner = None; second = second; second_owner = None }) merged → Lays k intervals merged
 halves_lay k m intervals first second merged within one other both = record {
   ascends = both.ascends 0 one.ascends other.ascends;
-  first = λ n. both.owner n ∙ ap (λ (x : Option ℕ). option_or x (first_told second n)) (one.first n) ∙ ap (λ (x : Option ℕ). option_or (first_from k (take m intervals) n) x) (other.first n)
-      ∙ ap (λ (j : ℕ). option_or (first_from k (take m intervals) n) (first_from (k + j) (drop m intervals) n)) (sym (length-take-le m intervals within))
+  first = λ n. both.owner n ∙ ap (λ (x : Option ℕ). option_or x (first_covering second n)) (one.first n) ∙ ap (λ (x : Option ℕ). option_or (first_interval_from k (take m intervals) n) x) (other.first n)
+      ∙ ap (λ (j : ℕ). option_or (first_interval_from k (take m intervals) n) (first_interval_from (k + j) (drop m intervals) n)) (sym (length-take-le m intervals within))
       ∙ sym (first_append k (take m intervals) (drop m intervals) n)
-      ∙ ap (λ (xs : List Interval). first_from k xs n) (take-append-drop m intervals);
+      ∙ ap (λ (xs : List Interval). first_interval_from k xs n) (take-append-drop m intervals);
 }
 
 -- the same of a merge that may want memory

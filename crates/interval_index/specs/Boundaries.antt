@@ -3,7 +3,7 @@ use Rattle.std.specs.Prelude.{◌≡◌, ◌≤◌, ℕ, Bool, true, false, List
 use Rattle.std.specs.Option.{option_or}
 use Rattle.interval_index.specs.declared.interval.Interval.{Interval}
 use Rattle.interval_index.specs.declared.boundaries.Boundary.{Boundary}
-use Rattle.interval_index.specs.Intervals.{first_from}
+use Rattle.interval_index.specs.Intervals.{first_interval_from}
 
 -- The owner of a number: that of the last boundary at or below it, where all before the first
 -- boundary have the owner given.
@@ -12,18 +12,18 @@ owner_at owner [] n = owner
 owner_at owner (b ∷ others) n = if nat_lt n b.from then owner else owner_at b.owner others n
 
 -- What an index of such boundaries answers: before the first boundary no interval has a number.
-abbrev pub first_told : List Boundary → ℕ → Option ℕ
-first_told boundaries n = owner_at None boundaries n
+abbrev pub first_covering : List Boundary → ℕ → Option ℕ
+first_covering boundaries n = owner_at None boundaries n
 
 -- The elements of a list ascend by a number of each, from a lowest one on.
-abbrev pub Ascends : {X : Type 0} → (X → ℕ) → ℕ → List X → Type 0
-Ascends number low [] = Unit
-Ascends number low (x ∷ others) = (low ≤ number x) × Ascends number (number x) others
+abbrev pub AscendsBy : {X : Type 0} → (X → ℕ) → ℕ → List X → Type 0
+AscendsBy number low [] = Unit
+AscendsBy number low (x ∷ others) = (low ≤ number x) × AscendsBy number (number x) others
 
 -- Boundaries lay intervals out, which are numbered from `k` on.
 pub record Lays (k : ℕ) (intervals : List Interval) (boundaries : List Boundary) : Type 0 where
-  pub ascends : Ascends (λ (b : Boundary). b.from) 0 boundaries
-  pub first : (n : ℕ) → first_told boundaries n ≡ first_from k intervals n
+  pub ascends : AscendsBy (λ (b : Boundary). b.from) 0 boundaries
+  pub first : (n : ℕ) → first_covering boundaries n ≡ first_interval_from k intervals n
 
 -- What is left of two lists of boundaries, with the owner on each side before its next boundary.
 pub record SidesView : Type 0 where
@@ -43,6 +43,6 @@ pub record Merges (sides : SidesView) (merged : List Boundary) : Type 0 where
   pub owner : (n : ℕ) → owner_at (option_or sides.first_owner sides.second_owner) merged n
       ≡ option_or (owner_at sides.first_owner sides.first n)
       (owner_at sides.second_owner sides.second n)
-  pub ascends : (low : ℕ) → Ascends (λ (b : Boundary). b.from) low sides.first
-      → Ascends (λ (b : Boundary). b.from) low sides.second
-      → Ascends (λ (b : Boundary). b.from) low merged
+  pub ascends : (low : ℕ) → AscendsBy (λ (b : Boundary). b.from) low sides.first
+      → AscendsBy (λ (b : Boundary). b.from) low sides.second
+      → AscendsBy (λ (b : Boundary). b.from) low merged

@@ -7,10 +7,10 @@ abbrev pub has : Interval → ℕ → Bool
 has interval n = nat_le interval.low n && nat_lt n interval.high
 
 -- The number of the first interval that has `n`, where the first of them has the number `k`.
-abbrev pub first_from : ℕ → List Interval → ℕ → Option ℕ
-first_from k [] n = None
-first_from k (interval ∷ others) n = if has interval n then Some k else first_from (suc k) others n
+abbrev pub first_interval_from : ℕ → List Interval → ℕ → Option ℕ
+first_interval_from k [] n = None
+first_interval_from k (interval ∷ others) n = if has interval n then Some k else first_interval_from (suc k) others n
 
 -- The number of the first interval that has `n`, counted from 0.
 abbrev pub first_with : List Interval → ℕ → Option ℕ
-first_with intervals n = first_from 0 intervals n
+first_with intervals n = first_interval_from 0 intervals n

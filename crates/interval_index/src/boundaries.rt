@@ -2,7 +2,7 @@
 
 ghost use Rattle.std.specs.Prelude.{◌≡◌, ◌+◌, ◌<◌, ◌≤◌, ◌^◌, length, IfOk};
 ghost use Rattle.interval_index.specs.declared.boundaries.Boundary.{Boundary};
-ghost use Rattle.interval_index.specs.Boundaries.{Ascends, Lays, first_told};
+ghost use Rattle.interval_index.specs.Boundaries.{AscendsBy, Lays, first_covering};
 
 use crate::interval::Interval;
 use crate::merging::merge;
@@ -61,9 +61,9 @@ fn lay_one(
 }
 
 /// The first interval that has `number`, read off the boundaries.
-pub(crate) fn first_told(boundaries: &[Boundary], number: u64) -> Option<usize>
-    requires { Ascends (λ (b : Boundary). b.from) 0 boundaries.now }
-    ensures { result ≡ first_told boundaries.now number }
+pub(crate) fn first_covering(boundaries: &[Boundary], number: u64) -> Option<usize>
+    requires { AscendsBy (λ (b : Boundary). b.from) 0 boundaries.now }
+    ensures { result ≡ first_covering boundaries.now number }
 {
     let count = boundaries.partition_point(|boundary| boundary.from <= number);
     if count == 0 {

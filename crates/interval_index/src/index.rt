@@ -2,16 +2,16 @@
 
 ghost use Rattle.std.specs.Prelude.{◌≡◌, ℕ, IfOk};
 ghost use Rattle.interval_index.specs.Intervals.{first_with};
-ghost use Rattle.interval_index.specs.Boundaries.{first_told};
+ghost use Rattle.interval_index.specs.Boundaries.{first_covering};
 
-use crate::boundaries::{Boundary, first_told, lay};
+use crate::boundaries::{Boundary, first_covering, lay};
 use crate::interval::Interval;
 use std::alloc::{AllocError, Global};
 use std::marker::Model;
 
 /// Finds, in a list of intervals, the first one that has a number.
 ///
-/// Contracts see it as its boundaries, of which `first_told` reads the answer.
+/// Contracts see it as its boundaries, of which `first_covering` reads the answer.
 #[derive(Drop)]
 pub struct IntervalIndex {
     boundaries: Vec<Boundary>,
@@ -20,13 +20,13 @@ pub struct IntervalIndex {
 impl Model for IntervalIndex {
     ghost use Rattle.std.specs.Prelude.{◌≡◌, List};
     ghost use Rattle.interval_index.specs.declared.boundaries.Boundary.{Boundary};
-    ghost use Rattle.interval_index.specs.Boundaries.{Ascends};
+    ghost use Rattle.interval_index.specs.Boundaries.{AscendsBy};
 
     ghost Value = { List Boundary };
 
     ghost view = { λ x. x.boundaries.items };
 
-    ghost invariant = { λ x. Ascends (λ (b : Boundary). b.from) 0 x.boundaries.items };
+    ghost invariant = { λ x. AscendsBy (λ (b : Boundary). b.from) 0 x.boundaries.items };
 }
 
 impl IntervalIndex {
@@ -35,7 +35,8 @@ impl IntervalIndex {
     /// # Errors
     /// [`AllocError`] for want of memory.
     pub fn build(alloc: Global, intervals: &[Interval]) -> Result<IntervalIndex, AllocError>
-        ensures { IfOk result (λ index. (n : ℕ) → first_told index n ≡ first_with intervals.now n) }
+        ensures { IfOk result (λ index. (n : ℕ)
+            → first_covering index n ≡ first_with intervals.now n) }
     {
         let boundaries = lay(alloc, 0, intervals)?;
         Ok(IntervalIndex { boundaries })
@@ -44,8 +45,8 @@ impl IntervalIndex {
     /// The number of the first interval that has `number`, or `None` where none has. No memory is
     /// taken.
     pub fn first(&self, number: u64) -> Option<usize>
-        ensures { result ≡ first_told self.now number }
+        ensures { result ≡ first_covering self.now number }
     {
-        first_told(&self.boundaries, number)
+        first_covering(&self.boundaries, number)
     }
 }

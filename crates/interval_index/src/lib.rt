@@ -10,8 +10,6 @@ mod boundaries;
 mod index;
 mod interval;
 mod merging;
-#[cfg(test)]
-mod tests;
 
 pub use index::IntervalIndex;
 pub use interval::Interval;

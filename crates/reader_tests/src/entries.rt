@@ -1,12 +1,9 @@
 //! A unit with a root and two more entries, and the same unit with wrong bytes.
 
-ghost use Rattle.std.specs.Prelude.{◌≡◌, length};
-ghost use Rattle.elf_sections.specs.Shapes.{sections_view, AreShort};
-
+use crate::small_file::sections_of;
 use abbrev_decl::{Scanner, Steps};
 use bumpalo::Bump;
-use dw_fields::{Code, Fault, Order};
-use elf_sections::Sections;
+use dw_fields::{Code, Fault};
 use entry_tree::{read_entries, root_facts};
 use form_values::Raw;
 use std::alloc::Global;
@@ -41,29 +38,6 @@ const HEADER: UnitHeader = UnitHeader {
     entries: 12,
     extra: Extra::Nothing,
 };
-
-fn sections_of<'f>(info: &'f [u8; 96], declarations: &'f [u8; 22]) -> Sections<'f>
-    ensures info { length (sections_view result).info ≡ 96 }
-    ensures declarations { length (sections_view result).«abbrev» ≡ 22 }
-    ensures same { (sections_view result).«abbrev» ≡ declarations.entry.now }
-    ensures short { AreShort (sections_view result) }
-{
-    Sections {
-        order: Order::Little,
-        info,
-        abbrev: declarations,
-        text: None,
-        line_text: None,
-        text_offsets: None,
-        address: None,
-        range_lists: None,
-        location_lists: None,
-        line: None,
-        ranges: None,
-        locations: None,
-        frame: None,
-    }
-}
 
 /// The refusal of the unit with one byte of `.debug_info` changed.
 fn refusal_with(alloc: Global, place: usize, value: u8) -> Option<UnitRefusal> {
@@ -172,7 +146,7 @@ fn refusals_have_their_places(rt: HostRuntime) {
         (24, 0x41, Code::TextUnended, 23),
         (12, 0x80, Code::CodeMissing, 12),
     ] {
-        let want = UnitRefusal::Refused(Fault { code, place: at });
+        let want = UnitRefusal::Refused(Fault::at(code, at));
         assert_eq!(rt;
             refusal_with(rt.alloc(), place, value),
             Some(want),

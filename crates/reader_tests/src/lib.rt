@@ -17,3 +17,5 @@ mod lists;
 mod queries;
 #[cfg(test)]
 mod sections;
+#[cfg(test)]
+mod small_file;

@@ -1,12 +1,10 @@
 //! Walks over the units of small files, by this crate's visitors and by one of the test.
 
-ghost use Rattle.std.specs.Prelude.{◌≡◌, ◌<◌, ◌^◌, length};
-ghost use Rattle.dw_fields.specs.declared.byte_order.Order.TheVariants.{Little};
-ghost use Rattle.elf_sections.specs.Shapes.{sections_view, AreShort};
+ghost use Rattle.std.specs.Prelude.{◌<◌, ◌^◌, length};
 
+use crate::small_file::sections_of;
 use abbrev_decl::{Scanner, Steps};
 use dw_fields::{Code, Fault, Order};
-use elf_sections::Sections;
 use std::alloc::{AllocError, Global};
 use std::test::Fail;
 use unit_headers::UnitIndex;
@@ -79,31 +77,6 @@ impl Visitor for FirstVariable {
     }
 }
 
-fn sections_of<'f>(info: &'f [u8], declarations: &'f [u8]) -> Sections<'f>
-    requires info { length info.now < 2 ^ 31 }
-    requires declarations { length declarations.now < 2 ^ 31 }
-    ensures order { (sections_view result).order ≡ Little }
-    ensures info { (sections_view result).info ≡ info.entry.now }
-    ensures declarations { (sections_view result).«abbrev» ≡ declarations.entry.now }
-    ensures short { AreShort (sections_view result) }
-{
-    Sections {
-        order: Order::Little,
-        info,
-        abbrev: declarations,
-        text: None,
-        line_text: None,
-        text_offsets: None,
-        address: None,
-        range_lists: None,
-        location_lists: None,
-        line: None,
-        ranges: None,
-        locations: None,
-        frame: None,
-    }
-}
-
 /// What a visitor reports on the units of a section.
 fn report_of(alloc: Global, info: &[u8], visitor: Box<dyn Visitor>) -> Result<Vec<u8>, WalkStop>
     requires { length info.now < 2 ^ 31 }
@@ -129,7 +102,7 @@ fn report_of(alloc: Global, info: &[u8], visitor: Box<dyn Visitor>) -> Result<Ve
 fn fault_in(unit: u32, code: Code, place: u64) -> WalkStop {
     WalkStop::Refused {
         unit,
-        fault: Fault { code, place },
+        fault: Fault::at(code, place),
     }
 }
 

@@ -3,18 +3,18 @@ use Rattle.std.proofs.Common.{◌≡◌, ◌-◌, ◌≤◌, ◌<◌, ◌∙◌,
 use Rattle.std.specs.List.Sorted.{IsNonDecreasingBy, IsPartitionPoint}
 use Rattle.interval_index.specs.declared.interval.Interval.{Interval}
 use Rattle.interval_index.specs.Intervals.{has}
-use Rattle.interval_index.specs.Boundaries.{Ascends}
+use Rattle.interval_index.specs.Boundaries.{AscendsBy}
 use Rattle.interval_index.proofs.Bisection.{non_decreasing}
 use Rattle.row_index.specs.declared.rows.KeptRow.{KeptRow}
 use Rattle.row_index.specs.Rows.{covers, row_behind, row_at}
 use Rattle.row_index.specs.Runs.{RisesBehind, Rises, last_behind, interval_of}
 use Rattle.row_index.proofs.Cuts.{goes_on, no_lower}
 
-ascends_behind : (row : KeptRow) (rest : List KeptRow) → RisesBehind row rest → Ascends (λ (r : KeptRow). r.address) row.address rest
+ascends_behind : (row : KeptRow) (rest : List KeptRow) → RisesBehind row rest → AscendsBy (λ (r : KeptRow). r.address) row.address rest
 ascends_behind row [] h = tt
 ascends_behind row (next ∷ rest) h = (no_lower row next h.0, ascends_behind next rest h.1)
 
-rows_ascend : (rows : List KeptRow) → Rises rows → Ascends (λ (r : KeptRow). r.address) 0 rows
+rows_ascend : (rows : List KeptRow) → Rises rows → AscendsBy (λ (r : KeptRow). r.address) 0 rows
 rows_ascend [] h = tt
 rows_ascend (row ∷ rest) h = (omega arith, ascends_behind row rest h)
 

@@ -2,7 +2,7 @@
 use Rattle.std.proofs.Common.{◌≡◌, ◌+◌, ◌<◌, ◌∙◌, ℕ, suc, Bool, true, false, cond, List, [], ◌∷◌, map, length, get_or, Option, Some, None, refl, sym, ap, subst, arith}
 use Rattle.std.specs.Option.{option_or}
 use Rattle.interval_index.specs.declared.interval.Interval.{Interval}
-use Rattle.interval_index.specs.Intervals.{has, first_from}
+use Rattle.interval_index.specs.Intervals.{has, first_interval_from}
 use Rattle.row_index.specs.declared.rows.KeptRow.{KeptRow}
 use Rattle.row_index.specs.declared.runs.Run.{Run}
 use Rattle.row_index.specs.Rows.{row_at, of_unit}
@@ -44,8 +44,8 @@ lead_later units run others a k (Some j) e h = record {
 }
 
 lead_by : (test : Bool) (units : List (List KeptRow)) (run : Run) (others : List Run) (a k : ℕ) → has (interval_of (rows_of units run)) a ≡ test → IsRunOf units run
-    → LeadsTo units others a (suc k) (first_from (suc k) (intervals units others) a)
-    → LeadsTo units (run ∷ others) a k (cond test (Some k) (first_from (suc k) (intervals units others) a))
+    → LeadsTo units others a (suc k) (first_interval_from (suc k) (intervals units others) a)
+    → LeadsTo units (run ∷ others) a k (cond test (Some k) (first_interval_from (suc k) (intervals units others) a))
 lead_by true units run others a k e h later = record {
   i = 0;
   is = omega arith;
@@ -54,14 +54,14 @@ lead_by true units run others a k e h later = record {
   told = λ d. told_here run.unit (row_at (rows_of units run) a) (told_by units others a) (inside (rows_of units run) a h.rises e);
 }
 lead_by false units run others a k e h later =
-    lead_later units run others a k (first_from (suc k) (intervals units others) a) (outside (rows_of units run) a h.rises e) later
+    lead_later units run others a k (first_interval_from (suc k) (intervals units others) a) (outside (rows_of units run) a h.rises e) later
 
-lead_from : (units : List (List KeptRow)) (runs : List Run) (a k : ℕ) → AreRunsOf units runs → LeadsTo units runs a k (first_from k (intervals units runs) a)
+lead_from : (units : List (List KeptRow)) (runs : List Run) (a k : ℕ) → AreRunsOf units runs → LeadsTo units runs a k (first_interval_from k (intervals units runs) a)
 lead_from units [] a k h = refl
 lead_from units (run ∷ others) a k h = lead_by (has (interval_of (rows_of units run)) a) units run others a k refl h.0 (lead_from units others a (suc k) h.1)
 
 -- what an index of the runs' intervals answers
-pub leads : (units : List (List KeptRow)) (runs : List Run) (a : ℕ) (found : Option ℕ) → AreRunsOf units runs → found ≡ first_from 0 (intervals units runs) a → LeadsTo units runs a 0 found
+pub leads : (units : List (List KeptRow)) (runs : List Run) (a : ℕ) (found : Option ℕ) → AreRunsOf units runs → found ≡ first_interval_from 0 (intervals units runs) a → LeadsTo units runs a 0 found
 leads units runs a found h e = subst (LeadsTo units runs a 0) (sym e) (lead_from units runs a 0 h)
 
 -- the run with the number that was found

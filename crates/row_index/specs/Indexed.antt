@@ -2,7 +2,7 @@
 use Rattle.std.specs.Prelude.{◌≡◌, ℕ, List, map}
 use Rattle.interval_index.specs.declared.boundaries.Boundary.{Boundary}
 use Rattle.interval_index.specs.Intervals.{first_with}
-use Rattle.interval_index.specs.Boundaries.{first_told}
+use Rattle.interval_index.specs.Boundaries.{first_covering}
 use Rattle.row_index.specs.declared.rows.KeptRow.{KeptRow}
 use Rattle.row_index.specs.declared.runs.Run.{Run}
 use Rattle.row_index.specs.Rows.{found_in}
@@ -12,4 +12,4 @@ use Rattle.row_index.specs.Runs.{AreRunsOf, interval_of, rows_of, told_by}
 pub record IsIndexed (units : List (List KeptRow)) (runs : List Run) (index : List Boundary) : Type 0 where
   pub runs_stand : AreRunsOf units runs
   pub told : (a : ℕ) → told_by units runs a ≡ found_in units a
-  pub first : (a : ℕ) → first_told index a ≡ first_with (map (λ run. interval_of (rows_of units run)) runs) a
+  pub first : (a : ℕ) → first_covering index a ≡ first_with (map (λ run. interval_of (rows_of units run)) runs) a

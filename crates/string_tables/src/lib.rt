@@ -8,8 +8,6 @@
 
 mod search;
 mod string_table;
-#[cfg(test)]
-mod tests;
 
 pub use search::first_zero;
 pub use string_table::StringTable;

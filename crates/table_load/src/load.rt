@@ -1,6 +1,7 @@
 //! One load: its words, its phases and what it prints.
 ghost use Rattle.std.specs.Prelude.{◌^◌, ◌<◌, ◌≤◌, IfSome};
 ghost use Rattle.map_core.specs.declared.layout.TheConstants.{MOST_ENTRIES};
+ghost use Rattle.table_load.specs.declared.load.TheConstants.{MOST_THREADS};
 
 use crate::callers::{Caller, callers};
 use crate::tally::Tally;
@@ -33,7 +34,7 @@ pub(crate) struct Load {
     rounds: u64,
     mode: Mode,
     times: bool,
-    ghost threads_fit: { (1 ≤ threads) × (threads ≤ 128) },
+    ghost threads_fit: { (1 ≤ threads) × (threads ≤ MOST_THREADS) },
     ghost capacity_fits: { (1 ≤ capacity) × (capacity ≤ MOST_ENTRIES) },
     ghost keys_fit: { keys ≤ MOST_ENTRIES },
 }
@@ -160,7 +161,7 @@ impl Load {
         first: u64,
         rounds: u64,
     ) -> io::Result<(Vec<Caller<'t>>, Duration)>
-        requires { first ≤ 4194304 }
+        requires { first ≤ MOST_ENTRIES }
     {
         let end = first + self.keys;
         let start = Instant::now(rt)?;
@@ -171,9 +172,9 @@ impl Load {
 
 /// One of so many parts of the numbers from the first on.
 fn share(first: u64, count: u64, index: u64, parts: u64) -> Range<u64>
-    requires first { first ≤ 4194304 }
-    requires count { count ≤ 4194304 }
-    requires parts { (1 ≤ parts) × (parts ≤ 128) }
+    requires first { first ≤ MOST_ENTRIES }
+    requires count { count ≤ MOST_ENTRIES }
+    requires parts { (1 ≤ parts) × (parts ≤ MOST_THREADS) }
     ensures { result.end < 2 ^ 32 }
 {
     let index = index.min(parts);

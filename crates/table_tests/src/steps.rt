@@ -1,14 +1,15 @@
 //! The sizes of a table, and its cells by themselves.
 use map_cells::{Cells, Layout};
+use map_core::{MOST_ENTRIES, MOST_PASSES};
 use share_map::AnyPair;
 use std::test::Fail;
 
 // The last generation of a table and its cells, where there may be such a table.
 fn sizes_of(capacity: u64, passes: u32) -> Option<(u32, u64)> {
-    if capacity == 0 || capacity > 4194304 {
+    if capacity == 0 || capacity > MOST_ENTRIES {
         return None;
     }
-    if passes == 0 || passes > 128 {
+    if passes == 0 || passes > MOST_PASSES {
         return None;
     }
     let layout = Layout::of(capacity, passes);

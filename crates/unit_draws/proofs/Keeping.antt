@@ -9,7 +9,7 @@ use Rattle.atomic_table.proofs.Lists.{at_set, set_here, set_else}
 use Rattle.atomic_table.specs.Table.{State}
 use Rattle.unit_draws.specs.declared.view.DrawSizes.{DrawSizes}
 use Rattle.unit_draws.specs.declared.view.DrawView.{DrawView}
-use Rattle.unit_draws.specs.Windows.{window_length}
+use Rattle.unit_draws.specs.Windows.{window_count, window_length}
 use Rattle.unit_draws.specs.Seats.{occurrences, HasEverySeat, HasDrawnWindow, with_unit, places_ahead}
 use Rattle.unit_draws.specs.Rule.{IsSeatAt, IsJoinedAway, HasFirstSeat, IsOneWhere, IsPassed, ended_seats, DrawRuleHolds}
 use Rattle.unit_draws.proofs.Sums.{below_length, sum_set, part_most, sums_most, sum_alone}
@@ -54,9 +54,9 @@ module _ (sizes : DrawSizes) (s : State (Unit {0}) DrawView) (holds : DrawRuleHo
   pub joined_away : (i : ℕ) (v : DrawView) → get_elem? s.views i ≡ some v → length v.numbers ≡ 0 → IsJoinedAway v
   joined_away i v at no_number = ⊎_elim (λ (seat : IsSeatAt sizes i v). absurd (let some = seat.some in omega arith)) (λ (away : IsJoinedAway v). away) (holds.seats i v at)
 
-  pub word_small : (w : ℕ) → slice_index s.words w < 65793
-  word_small w =
-      let bound = holds.bound w in
+  pub word_small : (w : ℕ) → w < window_count sizes.units → slice_index s.words w < 65793
+  word_small w inside =
+      let bound = holds.bound w inside in
       let few = sums_most (ended_seats w) (λ (v : DrawView). length v.numbers) s.views (ended_most w) in
       let numbers = holds.numbers in
       let made = holds.first.made in
@@ -163,7 +163,7 @@ module _ (sizes : DrawSizes) (s : State (Unit {0}) DrawView) (holds : DrawRuleHo
       pub step_keeps : (w m : ℕ) → w < length s.words → slice_index s.words w ≤ m
           → ((u : ℕ) → IsOneWhere (IsPassed sizes.units (set s.words w m) u) (sum_by (λ (x : DrawView). occurrences u x.drawn) (set s.views id v')))
           → ((q : ℕ) → 0 < occurrences q v'.ended → window_length sizes.units q ≤ slice_index (set s.words w m) q)
-          → ((q : ℕ) → slice_index (set s.words w m) q ≤ window_length sizes.units q + sum_by (ended_seats q) (set s.views id v'))
+          → ((q : ℕ) → q < window_count sizes.units → slice_index (set s.words w m) q ≤ window_length sizes.units q + sum_by (ended_seats q) (set s.views id v'))
           → DrawRuleHolds sizes record { words = set s.words w m; homes = s.homes; views = set s.views id v' }
       step_keeps w m low more drawn ended bound =
           let long = length-set s.views id v' in
@@ -180,4 +180,29 @@ module _ (sizes : DrawSizes) (s : State (Unit {0}) DrawView) (holds : DrawRuleHo
                 (λ other. let before = holds.ended i x other.1 q saw in let grows : slice_index s.words q ≤ slice_index (set s.words w m) q = word_grows s.words w m q low more in omega arith)
                 (at_set s.views id i v' x there);
             bound = bound;
+          }
+
+      -- a step of the seat on another word, which leaves what it drew and saw end
+      pub others_keep : (ws : List ℕ) → length ws ≡ length s.words → ((q : ℕ) → q < window_count sizes.units → slice_index ws q ≡ slice_index s.words q)
+          → v'.drawn ≡ v.drawn → v'.ended ≡ v.ended → ((q : ℕ) → ended_seats q v' ≡ ended_seats q v) → DrawRuleHolds sizes record { words = ws; homes = s.homes; views = set s.views id v' }
+      others_keep ws size words drawn ended seats =
+          let long = length-set s.views id v' in
+          record {
+            few = holds.few;
+            size = size ∙ holds.size;
+            first = first_after (ℕ_discrete id 0);
+            seats = λ i x there. ⊎_elim (λ here. inl (seat_here sizes id i v' x here seat_after)) (λ other. holds.seats i x other.1) (at_set s.views id i v' x there);
+            numbers = sum_stays (λ (x : DrawView). length x.numbers) (ap (λ (ns : List ℕ). length ns) same.3) ∙ (holds.numbers ∙ sym long);
+            apart = λ n. one_same (n < length s.views) (n < length (set s.views id v')) _ _ (subst (λ (k : ℕ). n < k) (sym long)) (subst (λ (k : ℕ). n < k) long) (sym (sum_stays (λ (x : DrawView). occurrences n x.numbers) (ap (occurrences n) same.3))) (holds.apart n);
+            drawn = λ u. one_same (IsPassed sizes.units s.words u) (IsPassed sizes.units ws u) _ _
+                (λ p. let counted = p.counted in record { counted = counted; passed = subst (λ (n : ℕ). u % 256 < n) (sym (words (u / 256) (omega arith))) p.passed })
+                (λ p. let counted = p.counted in record { counted = counted; passed = subst (λ (n : ℕ). u % 256 < n) (words (u / 256) (omega arith)) p.passed })
+                (sym (sum_stays (λ (x : DrawView). occurrences u x.drawn) (ap (occurrences u) drawn))) (holds.drawn u);
+            ended = λ i x there q saw. dite (dec_le (suc q) (window_count sizes.units))
+                (λ inside. subst (λ (n : ℕ). window_length sizes.units q ≤ n) (sym (words q inside)) (⊎_elim
+                (λ here. holds.ended id v at q (subst (λ (es : List ℕ). 0 < occurrences q es) ended (subst (λ (y : DrawView). 0 < occurrences q y.ended) (sym here.1) saw)))
+                (λ other. holds.ended i x other.1 q saw)
+                (at_set s.views id i v' x there)))
+                (λ outside. let none : window_length sizes.units q ≡ 0 = omega arith in omega (arith, none));
+            bound = λ q inside. let bound = holds.bound q inside in let stays = sum_stays (ended_seats q) (seats q) in let word = words q inside in omega arith;
           }

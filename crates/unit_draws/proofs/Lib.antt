@@ -4,3 +4,5 @@ pub mod Places
 pub mod Keeping
 pub mod Steps
 pub mod SeatSteps
+pub mod FirstWords
+pub mod LeastSteps

@@ -1,5 +1,5 @@
 -- A table at the start meets the rule, and so does it after a split and after a join.
-use Rattle.std.proofs.Common.{◌≡◌, ◌≢◌, ℕ, zero, suc, ◌+◌, ◌-◌, ◌/◌, ◌<◌, ◌≤◌, ◌⊎◌, inl, inr, ⊎_elim, List, [], ◌∷◌, ◌++◌, length, set, slice_index, sum_by, replicate, refl, sym, ap, subst, ◌∙◌, arith, length-set, length-append}
+use Rattle.std.proofs.Common.{◌≡◌, ◌≢◌, ℕ, zero, suc, ◌+◌, ◌-◌, ◌/◌, ◌<◌, ◌≤◌, ◌⊎◌, inl, inr, ⊎_elim, List, [], ◌∷◌, ◌++◌, length, set, slice_index, sum_by, refl, sym, ap, subst, ◌∙◌, arith, length-set, length-append}
 use Rattle.std.proofs.lemmas.List.Sums.{sum_by_push}
 use mathlib.Core.Logic.{dite}
 use mathlib.Core.Option.{some, some-injective, some-ne-none}
@@ -16,34 +16,29 @@ use Rattle.unit_draws.proofs.Sums.{below_length, sum_set}
 use Rattle.unit_draws.proofs.Occurrences.{occurrences-nil, occurrences-append, occurrences_same, occurrences_other}
 use Rattle.unit_draws.proofs.Keeping.{one_same, seat_here, ended_most, ended_never, ended_now, seat_now}
 
-at_push : {A : Type 0} (l : List A) (a b : A) (j : ℕ) → get_elem? (l ++ a ∷ []) j ≡ some b → (get_elem? l j ≡ some b) ⊎ ((j ≡ length l) × (a ≡ b))
+pub at_push : {A : Type 0} (l : List A) (a b : A) (j : ℕ) → get_elem? (l ++ a ∷ []) j ≡ some b → (get_elem? l j ≡ some b) ⊎ ((j ≡ length l) × (a ≡ b))
 at_push [] a b zero e = inr (refl, some-injective a b e)
 at_push [] a b (suc j) e = absurd (some-ne-none b (sym e))
 at_push (x ∷ xs) a b zero e = inl e
 at_push (x ∷ xs) a b (suc j) e = ⊎_elim (λ there. inl there) (λ last. inr (ap suc last.0, last.1)) (at_push xs a b j e)
 
-zeros : (n q : ℕ) → slice_index (replicate n 0) q ≡ 0
-zeros zero q = refl
-zeros (suc n) zero = refl
-zeros (suc n) (suc q) = zeros n q
-
--- all words 0, and the first seat alone
-pub opens : (sizes : DrawSizes) (ws : List ℕ) → 1 ≤ sizes.seats → sizes.seats ≤ 65536 → ws ≡ replicate (window_count sizes.units) 0 → length ws ≡ window_count sizes.units → DrawRuleHolds sizes (opening ws [] (first_seat sizes))
-opens sizes ws some_seat few are size =
-    let nothing : (q : ℕ) → slice_index ws q ≡ 0 = λ q. ap (λ (x : List ℕ). slice_index x q) are ∙ zeros (window_count sizes.units) q in
-    let seat : IsSeatAt sizes 0 (first_seat sizes) = record { units = refl; seats = refl; number = refl; spare = λ later. absurd (omega arith); some = omega arith } in
+-- all next-unit words 0, and the first seat alone
+pub opens : (sizes : DrawSizes) (tag ws : List ℕ) → 1 ≤ sizes.seats → sizes.seats ≤ 65536 → ((q : ℕ) → q < window_count sizes.units → slice_index ws q ≡ 0)
+    → length ws ≡ window_count sizes.units + window_count sizes.units → DrawRuleHolds sizes (opening ws [] (first_seat sizes tag))
+opens sizes tag ws some_seat few nothing size =
+    let seat : IsSeatAt sizes 0 (first_seat sizes tag) = record { units = refl; seats = refl; number = refl; spare = λ later. absurd (omega arith); some = omega arith } in
     record {
       few = few;
       size = size;
-      first = record { view = first_seat sizes; at = refl; seat = seat; made = omega arith };
-      seats = λ i v there. ⊎_elim (λ none_there. absurd (some-ne-none v (sym none_there))) (λ here. inl (seat_here sizes 0 i (first_seat sizes) v here seat)) (at_push [] (first_seat sizes) v i there);
+      first = record { view = first_seat sizes tag; at = refl; seat = seat; made = omega arith };
+      seats = λ i v there. ⊎_elim (λ none_there. absurd (some-ne-none v (sym none_there))) (λ here. inl (seat_here sizes 0 i (first_seat sizes tag) v here seat)) (at_push [] (first_seat sizes tag) v i there);
       numbers = refl;
       apart = λ n. dite (ℕ_discrete n 0)
           (λ is. let e : 0 + occurrences n (0 ∷ []) ≡ 1 = let one = occurrences_same n 0 (sym is) in omega arith in record { one = λ so. e; none = λ not. absurd (not (omega arith)) })
           (λ isnt. let e : 0 + occurrences n (0 ∷ []) ≡ 0 = let nothing_there = occurrences_other n 0 (λ k. isnt (sym k)) in omega arith in record { one = λ so. absurd (isnt (omega arith)); none = λ not. e });
-      drawn = λ u. record { one = λ so. absurd (let z = nothing (u / 256) in let p = so.passed in omega arith); none = λ not. let none_drawn = occurrences-nil u in omega arith };
-      ended = λ i v there w saw. ⊎_elim (λ none_there. absurd (some-ne-none v (sym none_there))) (λ here. absurd (let none_ended = occurrences-nil w in let saw_it : 0 < occurrences w [] = subst (λ (x : DrawView). 0 < occurrences w x.ended) (sym here.1) saw in omega arith)) (at_push [] (first_seat sizes) v i there);
-      bound = λ w. let z = nothing w in omega arith;
+      drawn = λ u. record { one = λ so. absurd (let counted = so.counted in let z = nothing (u / 256) (omega arith) in let p = so.passed in omega arith); none = λ not. let none_drawn = occurrences-nil u in omega arith };
+      ended = λ i v there w saw. ⊎_elim (λ none_there. absurd (some-ne-none v (sym none_there))) (λ here. absurd (let none_ended = occurrences-nil w in let saw_it : 0 < occurrences w [] = subst (λ (x : DrawView). 0 < occurrences w x.ended) (sym here.1) saw in omega arith)) (at_push [] (first_seat sizes tag) v i there);
+      bound = λ w inside. let z = nothing w inside in omega arith;
     }
 
 -- a seat that is split off
@@ -95,7 +90,7 @@ splits sizes id v some_number some_spare s holds at =
           (λ before. ⊎_elim (λ same. holds.ended i x same q saw) (λ here. holds.ended id v at q (subst (λ (y : DrawView). 0 < occurrences q y.ended) (sym here.1) saw)) before)
           (λ last. absurd (let none_ended = occurrences-nil q in let saw_it : 0 < occurrences q [] = subst (λ (y : DrawView). 0 < occurrences q y.ended) (sym last.1) saw in omega arith))
           (place_of i x there);
-      bound = λ q. let sum = sums (ended_seats q) refl in let bound = holds.bound q in omega arith;
+      bound = λ q inside. let sum = sums (ended_seats q) refl in let bound = holds.bound q inside in omega arith;
     }
 
 -- a seat that takes another in
@@ -132,7 +127,7 @@ joins sizes id other v u some_number also_number not_first s holds at apart at_s
           let made = holds.first.made in
           record { view = holds.first.view; at = first_views ∙ (set_else s.views id 0 both (λ e. elsewhere (sym e)) ∙ holds.first.at); seat = holds.first.seat; made = omega arith });
       seats = λ i x there. ⊎_elim
-          (λ away. inr (subst IsJoinedAway away record { numbers = refl; drawn = refl; ended = refl }))
+          (λ away. inr (subst IsJoinedAway away record { numbers = refl; drawn = refl; ended = refl; lowered = refl }))
           (λ rest. ⊎_elim (λ here. inl (seat_here sizes id i both x here both_seat)) (λ same. holds.seats i x same) rest)
           (place_of i x there);
       numbers = let sum = sums (λ (x : DrawView). length x.numbers) in let add = length-append v.numbers u.numbers in let numbers = holds.numbers in omega arith;
@@ -149,8 +144,8 @@ joins sizes id other v u some_number also_number not_first s holds at apart at_s
           dite (ℕ_discrete (occurrences q v.ended) 0) (λ never. holds.ended other u at_other q (omega arith)) (λ some_time. holds.ended id v at q (omega arith)))
           (λ same. holds.ended i x same q saw) rest)
           (place_of i x there);
-      bound = λ q.
-          let bound = holds.bound q in
+      bound = λ q inside.
+          let bound = holds.bound q inside in
           let sum = sums (ended_seats q) in
           let nothing = ended_never q empty_seat (occurrences-nil q) in
           let add = occurrences-append q v.ended u.ended in

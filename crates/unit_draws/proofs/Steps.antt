@@ -16,7 +16,7 @@ use Rattle.unit_draws.proofs.Sums.{sum_set}
 use Rattle.unit_draws.proofs.Occurrences.{occurrences-append, occurrences_same, occurrences_other, window_of_unit, number_of_unit}
 use Rattle.unit_draws.proofs.Keeping.{one_same, ended_never, ended_now, word_now, word_else, word_grows, word_small, seat_now, never_drawn, drawn_once, ahead_fewer, drawn_whole, sum_stays, step_keeps}
 
-module _ (sizes : DrawSizes) (s : State (Unit {0}) DrawView) (holds : DrawRuleHolds sizes s) (id : ℕ) (v : DrawView) (at : get_elem? s.views id ≡ some v) (some_number : 0 < length v.numbers) (w n : ℕ) (low : w < length s.words) (here : slice_index s.words w ≡ n) where
+module _ (sizes : DrawSizes) (s : State (Unit {0}) DrawView) (holds : DrawRuleHolds sizes s) (id : ℕ) (v : DrawView) (at : get_elem? s.views id ≡ some v) (some_number : 0 < length v.numbers) (w n : ℕ) (inside : w < window_count sizes.units) (low : w < length s.words) (here : slice_index s.words w ≡ n) where
   -- the number was below the window's length: its unit is the seat's
   module _ (within : n < window_length sizes.units w) where
     small : n < 256
@@ -70,8 +70,8 @@ module _ (sizes : DrawSizes) (s : State (Unit {0}) DrawView) (holds : DrawRuleHo
     draws_keeps =
         step_keeps sizes s holds id v at some_number (with_unit v (256 * w + n)) (refl, refl, refl, refl, refl) w (n + 1) low (omega arith) drawn_after
         (λ q saw. let before = holds.ended id v at q saw in let grows = word_grows s.words w (n + 1) q low (omega arith) in omega arith)
-        (λ q.
-        let bound = holds.bound q in
+        (λ q inside_q.
+        let bound = holds.bound q inside_q in
         let stays = sum_stays sizes s holds id v at some_number (with_unit v (256 * w + n)) (refl, refl, refl, refl, refl) (ended_seats q) refl in
         dite (ℕ_discrete q w)
         (λ is. let now = word_now s.words w (n + 1) q low is in let within_q : n < window_length sizes.units q = subst (λ (k : ℕ). n < window_length sizes.units k) (sym is) within in omega arith)
@@ -116,8 +116,8 @@ module _ (sizes : DrawSizes) (s : State (Unit {0}) DrawView) (holds : DrawRuleHo
         dite (ℕ_discrete q w)
         (λ is. let now = word_now s.words w (n + 1) q low is in let past_q : window_length sizes.units q ≤ n = subst (λ (k : ℕ). window_length sizes.units k ≤ n) (sym is) past in omega arith)
         (λ isnt. let no_more = occurrences_other q w (λ e. isnt (sym e)) in let before = holds.ended id v at q (omega arith) in omega arith))
-        (λ q.
-        let bound = holds.bound q in
+        (λ q inside_q.
+        let bound = holds.bound q inside_q in
         let sum = sum_set (ended_seats q) s.views id v (with_ended v w) at in
         let more = occurrences-append q v.ended (w ∷ []) in
         dite (ℕ_discrete q w)
@@ -138,26 +138,30 @@ module _ (sizes : DrawSizes) (s : State (Unit {0}) DrawView) (holds : DrawRuleHo
 
 -- an addition of 1 to a window's word
 draw_by : (sizes : DrawSizes) (slots id : ℕ) (v : DrawView) (c : List (ℕ × Unit {0})) (w : ℕ) (s : State (Unit {0}) DrawView) (holds : DrawRuleHolds sizes s) (at : get_elem? s.views id ≡ some v)
-    → 0 < length v.numbers → w < length s.words → occurrences w v.ended ≡ 0 → (n : ℕ) → slice_index s.words w ≡ n → Dec (window_length sizes.units w ≤ n)
+    → 0 < length v.numbers → w < window_count sizes.units → w < length s.words → occurrences w v.ended ≡ 0 → (n : ℕ) → slice_index s.words w ≡ n → Dec (window_length sizes.units w ≤ n)
     → (v' : DrawView) × DrawRuleHolds sizes record { words = set s.words w (n + 1); homes = s.homes; views = set s.views id v' } × DrawsNumber (step slots w 1 0 none) (v, c) n (v', c)
-draw_by sizes slots id v c w s holds at some_number low open_window n here (yes past) =
+draw_by sizes slots id v c w s holds at some_number inside low open_window n here (yes past) =
     let units = (seat_now sizes s holds id v at some_number).units in (
       with_ended v w,
-      ends_keeps sizes s holds id v at some_number w n low here past open_window,
+      ends_keeps sizes s holds id v at some_number w n inside low here past open_window,
       record {
         slots = refl;
+        tag = refl;
+        lowered = refl;
         unit = λ within. absurd (let same : window_length v.units w ≡ window_length sizes.units w = ap (λ (k : ℕ). window_length k w) units in omega arith);
-        none = λ ended. ends_window sizes s holds id v at some_number w n low here past open_window;
+        none = λ ended. ends_window sizes s holds id v at some_number w n inside low here past open_window;
       },
     )
-draw_by sizes slots id v c w s holds at some_number low open_window n here (no not) =
+draw_by sizes slots id v c w s holds at some_number inside low open_window n here (no not) =
     let units = (seat_now sizes s holds id v at some_number).units in
     let within : n < window_length sizes.units w = lt_of_not-le not in (
       with_unit v (256 * w + n),
-      draws_keeps sizes s holds id v at some_number w n low here within,
+      draws_keeps sizes s holds id v at some_number w n inside low here within,
       record {
         slots = refl;
-        unit = λ inside. draws_unit sizes s holds id v at some_number w n low here within;
+        tag = refl;
+        lowered = refl;
+        unit = λ short. draws_unit sizes s holds id v at some_number w n inside low here within;
         none = λ ended. absurd (let same : window_length v.units w ≡ window_length sizes.units w = ap (λ (k : ℕ). window_length k w) units in omega arith);
       },
     )
@@ -166,9 +170,10 @@ pub draw_allowed : (sizes : DrawSizes) (slots id : ℕ) (v : DrawView) (c : List
     → Allows (DrawRuleHolds sizes) slots id (v, c) w (λ n. (n + 1) % 2 ^ 64) (DrawsNumber (step slots w 1 0 none) (v, c))
 draw_allowed sizes slots id v c w some_number low open_window s holds homes at fits =
     let n : ℕ = slice_index s.words w in
-    let small = word_small sizes s holds w in
+    let small = word_small sizes s holds w low in
+    let size = holds.size in
     let next : (n + 1) % 2 ^ 64 ≡ n + 1 = omega arith in
-    let drawn = draw_by sizes slots id v c w s holds at some_number (subst (λ (k : ℕ). w < k) (sym holds.size) low) open_window n refl (dec_le (window_length sizes.units w) n) in (
+    let drawn = draw_by sizes slots id v c w s holds at some_number low (omega arith) open_window n refl (dec_le (window_length sizes.units w) n) in (
       drawn.0,
       keeps,
       tt,

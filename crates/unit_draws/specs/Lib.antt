@@ -1,4 +1,3 @@
 pub mod Windows
 pub mod Seats
 pub mod Rule
-pub mod TestStates

@@ -7,10 +7,11 @@ use Rattle.unit_draws.specs.declared.view.DrawView.{DrawView}
 use Rattle.unit_draws.specs.declared.windows.TheConstants.{WINDOW}
 use Rattle.unit_draws.specs.Windows.{IsUnitOfWindow}
 
--- which words, how many units they count, and how many seats there may be
+-- which words, how many units they count, how many seats there may be, and by which tag units are refused
 pub record DrawsView : Type 0 where
   pub table : TableId
   pub sizes : DrawSizes
+  pub tag : List ℕ
 
 -- whose seat it is, and what it knows
 pub record SeatView : Type 0 where
@@ -22,6 +23,7 @@ pub record IsSeatOf (draws : DrawsView) (seat : SeatView) : Type 0 where
   pub table : seat.table ≡ draws.table
   pub units : seat.knows.units ≡ draws.sizes.units
   pub seats : seat.knows.seats ≡ draws.sizes.seats
+  pub tag : seat.knows.tag ≡ draws.tag
 
 -- how often a number stands in a list
 unfoldable pub occurrences : ℕ → List ℕ → ℕ
@@ -29,16 +31,18 @@ occurrences n ns = count_by (λ m. m == n) ns
 
 -- # Seats as calls leave them
 
-abbrev pub first_seat : DrawSizes → DrawView
-first_seat sizes =
+abbrev pub first_seat : DrawSizes → List ℕ → DrawView
+first_seat sizes tag =
     record {
       units = sizes.units;
       seats = sizes.seats;
+      tag = tag;
       number = 0;
       numbers = 0 ∷ [];
       spare = sizes.seats - 1;
       drawn = [];
       ended = [];
+      lowered = [];
     }
 
 -- the seat that another was split off
@@ -51,11 +55,13 @@ seat_split_off v =
     record {
       units = v.units;
       seats = v.seats;
+      tag = v.tag;
       number = v.seats - v.spare;
       numbers = (v.seats - v.spare) ∷ [];
       spare = 0;
       drawn = [];
       ended = [];
+      lowered = [];
     }
 
 -- the seat that drew this unit
@@ -66,6 +72,10 @@ with_unit v unit = record v { drawn = v.drawn ++ unit ∷ [] }
 abbrev pub with_ended : DrawView → ℕ → DrawView
 with_ended v window = record v { ended = v.ended ++ window ∷ [] }
 
+-- the seat that told of this refused unit
+abbrev pub with_lowered : DrawView → ℕ → DrawView
+with_lowered v unit = record v { lowered = v.lowered ++ unit ∷ [] }
+
 -- the seat that took another in
 abbrev pub with_seat : DrawView → DrawView → DrawView
 with_seat v u =
@@ -73,11 +83,23 @@ with_seat v u =
       numbers = v.numbers ++ u.numbers;
       drawn = v.drawn ++ u.drawn;
       ended = v.ended ++ u.ended;
+      lowered = v.lowered ++ u.lowered;
     }
 
 -- what is left of a seat that another took in
 abbrev pub empty_seat : DrawView
-empty_seat = record { units = 0; seats = 0; number = 0; numbers = []; spare = 0; drawn = []; ended = [] }
+empty_seat =
+    record {
+      units = 0;
+      seats = 0;
+      tag = [];
+      number = 0;
+      numbers = [];
+      spare = 0;
+      drawn = [];
+      ended = [];
+      lowered = [];
+    }
 
 -- whatever a draw answers, the seat has its numbers still
 pub record KeepsNumbers (v v' : DrawView) : Type 0 where

@@ -1,20 +1,24 @@
 //! The rule of the windows' words, and what each atomic step on them tells.
-use crate::view::{DrawSizes, DrawView};
+use crate::refused::RefusedUnits;
+use crate::view::{AboutDraws, DrawView};
 use atomic_table::{Join, Play, Split, TableRule};
+use std::marker::PhantomData;
 
-/// Each unit that a window's word has passed was drawn once, by one seat.
-pub(crate) struct DrawRule;
-
-impl TableRule<(), DrawView, DrawSizes> for DrawRule {
-    ghost use Rattle.unit_draws.specs.Seats.{first_seat};
-    ghost use Rattle.unit_draws.specs.Rule.{DrawRuleHolds};
-
-    ghost holds = { DrawRuleHolds };
-
-    ghost first = { first_seat };
+/// Each unit that a window's next-unit word has passed was drawn once, by one seat, and a window's least word is of a
+/// refused unit or the window's length.
+pub(crate) struct DrawRule<U> {
+    refused: PhantomData<U>,
 }
 
-/// An addition of 1 to a window's word.
+impl<U: RefusedUnits> TableRule<(), DrawView, AboutDraws> for DrawRule<U> {
+    ghost use Rattle.unit_draws.specs.Rule.{RuleHolds, first_of};
+
+    ghost holds = { RuleHolds U.refuses };
+
+    ghost first = { first_of };
+}
+
+/// An addition of 1 to a window's next-unit word.
 pub(crate) struct DrawNumber;
 
 impl Play<(), DrawView> for DrawNumber {
@@ -30,6 +34,26 @@ impl Play<(), DrawView> for LoadBehindJoin {
     ghost use Rattle.unit_draws.specs.Rule.{LearnsOfDrawn};
 
     ghost then = { LearnsOfDrawn };
+}
+
+/// A least word that becomes the smaller of what it was and the number of a refused unit.
+pub(crate) struct LowerLeast;
+
+impl Play<(), DrawView> for LowerLeast {
+    ghost use Rattle.unit_draws.specs.Rule.{LowersUnit};
+
+    ghost then = { LowersUnit };
+}
+
+/// A load of a window's least word.
+pub(crate) struct LoadLeast<U> {
+    refused: PhantomData<U>,
+}
+
+impl<U: RefusedUnits> Play<(), DrawView> for LoadLeast<U> {
+    ghost use Rattle.unit_draws.specs.Rule.{TellsLeast};
+
+    ghost then = { TellsLeast U.refuses };
 }
 
 /// How a seat hands on one of its spare numbers.

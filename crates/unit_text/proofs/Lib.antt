@@ -1,4 +1,5 @@
 pub mod Loops
+pub mod KeptLists
 pub mod ListContexts
 pub mod TableLaws
 pub mod TableTileLaws

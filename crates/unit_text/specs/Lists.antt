@@ -35,6 +35,10 @@ is_location_attribute name =
     || (name == DATA_MEMBER_LOCATION) || (name == FRAME_BASE) || (name == SEGMENT)
     || (name == STATIC_LINK) || (name == USE_LOCATION) || (name == VTABLE_ELEM_LOCATION)
 
+-- the attributes that may have a list
+unfoldable pub is_list_attribute : ℕ → Bool
+is_list_attribute name = (name == RANGES) || is_location_attribute name
+
 -- the place of the list that an attribute stands for, or the refusal, which counts at the attribute
 unfoldable pub list_place : UnitView → AttrView → Result ℕ Fault
 list_place u a = refused_at a.place (list_of a.raw u.header.wide u.sections u.facts.bases)

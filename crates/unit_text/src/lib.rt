@@ -10,6 +10,7 @@
 mod declaration_text;
 mod last_lists;
 mod laws;
+mod list_attrs;
 mod lists;
 mod pieces;
 mod section_line;
@@ -21,6 +22,7 @@ mod values;
 
 pub use last_lists::LastLists;
 pub use laws::tables_tile_the_section;
+pub use list_attrs::ListAttrs;
 pub use lists::{write_lists, write_lists_with};
 pub use section_line::write_section;
 pub use tables::write_tables;

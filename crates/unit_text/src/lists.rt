@@ -9,9 +9,10 @@ ghost use Rattle.form_values.specs.View.{raw_view, is_list};
 ghost use Rattle.range_lists.specs.Locations.{location_view};
 ghost use Rattle.unit_text.specs.Pieces.{Puts, Writes, texts_of};
 ghost use Rattle.unit_text.specs.UnitView.{unit_of, unit_view};
-ghost use Rattle.unit_text.specs.Lists.{is_range_list, is_location_list, is_location_attribute, list_place, range_text, range_line, range_list_text, location_list_text, bounds_text, expression_text, location_line, ranges_title, locations_title, ranges_text, locations_text, attr_lists, entry_lists, lists_text};
+ghost use Rattle.unit_text.specs.Lists.{is_range_list, is_location_list, list_place, range_text, range_line, range_list_text, location_list_text, bounds_text, expression_text, location_line, ranges_title, locations_title, ranges_text, locations_text, attr_lists, entry_lists, lists_text};
 
 use crate::last_lists::LastLists;
+use crate::list_attrs::is_location_attribute;
 use crate::pieces::as_put;
 use crate::unit::Unit;
 use dw_fields::Fault;
@@ -177,25 +178,6 @@ fn is_location_list(raw: &Raw<'_>) -> bool
     ensures { result ≡ is_location_list (raw_view raw.now) }
 {
     matches!(raw, Raw::Offset(_) | Raw::LocationIndex(_))
-}
-
-/// The attributes whose value may be a location list.
-#[tactic(auto, unfolding(crate::specs::Lists::is_location_attribute))]
-fn is_location_attribute(name: u64) -> bool
-    ensures { result ≡ is_location_attribute name }
-{
-    matches!(
-        name,
-        attribute::LOCATION
-            | attribute::STRING_LENGTH
-            | attribute::RETURN_ADDR
-            | attribute::DATA_MEMBER_LOCATION
-            | attribute::FRAME_BASE
-            | attribute::SEGMENT
-            | attribute::STATIC_LINK
-            | attribute::USE_LOCATION
-            | attribute::VTABLE_ELEM_LOCATION
-    )
 }
 
 /// The place of the list that an attribute stands for.

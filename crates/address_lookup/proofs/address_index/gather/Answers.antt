@@ -1,10 +1,10 @@
-use Rattle.std.proofs.Common.{rules, ◌≡◌, ◌<◌, ◌∙◌, map, refl, sym, ap, subst, arith}
+use Rattle.std.proofs.Common.{rules, ◌<◌, ◌∙◌, map, refl, sym, ap, subst, arith}
 use Rattle.abbrev_decl.specs.Lookup.{LeavesSource}
 use Rattle.elf_sections.specs.Shapes.{SectionsView, sections_view}
 use Rattle.unit_headers.specs.Headers.{unit_count}
 use Rattle.unit_headers.specs.Units.{Units}
 use Rattle.address_lookup.specs.declared.tables.Tables.{Tables}
-use Rattle.address_lookup.specs.Built.{IsGathered, told}
+use Rattle.address_lookup.specs.Built.{IsGathered, kept_answer}
 use Rattle.address_lookup.specs.Kept.{kept_place_of}
 use Rattle.address_lookup.specs.Programs.{unit_table}
 use Rattle.address_lookup.proofs.Gathering.{none_added, some_added}
@@ -22,7 +22,7 @@ find_program-requires g c =
 pub loop-unit-init : goal.loop-unit-init
 loop-unit-init g c = record {
   gathered = c.new-tables.ensures.gathered;
-  tells = tells_none (sections_view c.args.sections.now) (told c.new-tables.result)
+  tells = tells_none (sections_view c.args.sections.now) (kept_answer c.new-tables.result)
       (λ a. ap (λ us. kept_place_of us (map (λ v. v.items) c.new-tables.result.rows.items) a) c.new-tables.ensures.units);
   follows = search rules;
 }
@@ -39,17 +39,17 @@ loop-unit-preserved g c =
     elim c.match-find_program.branch [
       | in-Some+in_ok-add w ↦ record {
         gathered = subst (IsGathered s) (sym w.tables-is) (subst (λ (t : SectionsView). IsGathered t w.add.new.self) c.loop-unit.invariant.gathered.texts w.in_ok-add.ensures.gathered);
-        tells = tells_next s unit (told old) (told c.match-find_program.tables) within
-            (subst (λ (t : Tables). AddedTo unit (unit_table s unit) (told old) (told t)) (sym w.tables-is)
+        tells = tells_next s unit (kept_answer old) (kept_answer c.match-find_program.tables) within
+            (subst (λ (t : Tables). AddedTo unit (unit_table s unit) (kept_answer old) (kept_answer t)) (sym w.tables-is)
             (some_added s unit w.in-Some.program old w.add.new.self (sym c.find_program.ensures.program ∙ w.in-Some.is) c.loop-unit.invariant.gathered.texts w.in_ok-add.ensures.added))
             c.loop-unit.invariant.tells;
         follows = follows;
       }
       | in_default w ↦ record {
         gathered = subst (IsGathered s) (sym w.tables-is) c.loop-unit.invariant.gathered;
-        tells = tells_next s unit (told old) (told c.match-find_program.tables) within
-            (subst (λ (t : Tables). AddedTo unit (unit_table s unit) (told old) (told t)) (sym w.tables-is)
-            (none_added s unit (told old) (sym c.find_program.ensures.program ∙ w.in_default.is)))
+        tells = tells_next s unit (kept_answer old) (kept_answer c.match-find_program.tables) within
+            (subst (λ (t : Tables). AddedTo unit (unit_table s unit) (kept_answer old) (kept_answer t)) (sym w.tables-is)
+            (none_added s unit (kept_answer old) (sym c.find_program.ensures.program ∙ w.in_default.is)))
             c.loop-unit.invariant.tells;
         follows = follows;
       }

@@ -26,5 +26,21 @@ returns-in-Ok-clause-only g c =
 pub returns-in-Ok-clause-size : goal.returns-in-Ok-clause-size
 returns-in-Ok-clause-size g c = each_length c.args.seats.now.items c.dump_windows.new.seats.items c.dump_windows.ensures.follow
 
-pub returns-in-Err-clause-follow : goal.returns-in-Err-clause-follow
-returns-in-Err-clause-follow g c = each_same c.args.seats.now.items
+pub returns-then-len-eq1-clause-none : goal.returns-then-len-eq1-clause-none
+returns-then-len-eq1-clause-none g c =
+    whole_none (sections_in c.args.handle.now) c.dump_alone.result (g.O.Sink.held c.args.out.now) (g.O.Sink.held c.dump_alone.new.out) c.dump_alone.ensures.dump
+
+pub returns-then-len-eq1-clause-belong : goal.returns-then-len-eq1-clause-belong
+returns-then-len-eq1-clause-belong g c =
+    each_belongs c.args.handle.now c.args.seats.now.items c.dump_alone.new.seats.items c.requires.belong c.dump_alone.ensures.follow
+
+pub returns-then-len-eq1-clause-size : goal.returns-then-len-eq1-clause-size
+returns-then-len-eq1-clause-size g c = each_length c.args.seats.now.items c.dump_alone.new.seats.items c.dump_alone.ensures.follow
+
+pub returns-then-len-eq1-clause-only : goal.returns-then-len-eq1-clause-only
+returns-then-len-eq1-clause-only g c =
+    on_ok c.dump_alone.result _ _ c.dump_alone.ensures.reads
+    (λ reads none owns. each_owns (sections_in c.args.handle.now) c.args.seats.now.items c.dump_alone.new.seats.items reads none owns)
+
+pub returns-clause-follow : goal.returns-clause-follow
+returns-clause-follow g c = each_same c.args.seats.now.items

@@ -3,6 +3,7 @@ use Rattle.handle_cache.specs.Handles.{sections_in}
 use Rattle.dump_workers.specs.declared.ends.DumpFault.TheVariants as dump_faults
 use Rattle.dump_workers.proofs.DumpLaws.{printed_next, printed_cut, printed_refused, printed_done}
 use Rattle.dump_workers.proofs.PrintLemmas.{cause_of, entries_all, entries_more}
+use Rattle.dump_workers.proofs.RefusalLaws.{not_behind, whole_more}
 use Rattle.dump_workers.proofs.printing.print_units.Goals as goal
 
 pub units-init : goal.units-init
@@ -11,6 +12,7 @@ units-init g c = record {
   entries = refl;
   room = c.requires.room;
   low = omega arith;
+  whole = λ x low high. absurd (omega (arith, low, high));
   later = omega arith;
 }
 
@@ -26,6 +28,7 @@ units-preserved g c =
           read.1 c.from.ensures c.units.invariant.entries;
       room = omega arith;
       low = omega arith;
+      whole = whole_more (sections_in c.args.handle.now) c.args.start c.units.unit c.in-Whole.text.items c.units.invariant.whole read.0;
       later = omega (arith, c.units.invariant.later, c.print_text.ensures.cause.later);
     }
 
@@ -41,6 +44,16 @@ returns-in-Err-clause-printed g c =
 
 pub returns-in-Err-clause-cause : goal.returns-in-Err-clause-cause
 returns-in-Err-clause-cause g c = cause_of c.in-Err.fault dump_faults.WriteFault _ _ _ c.units.invariant.later c.in-Err.ensures.cause
+
+pub returns-in-Skipped-clause-printed : goal.returns-in-Skipped-clause-printed
+returns-in-Skipped-clause-printed g c =
+    not_behind (sections_in c.args.handle.now) c.args.window c.args.start c.units.unit c.requires.from c.units.invariant.low c.units.invariant.whole
+    (rw c.in-Skipped.is at (c.find_reading.ensures.found (sections_in c.args.handle.now) c.args.window c.requires.reads.each))
+
+pub returns-in-Skipped-clause-entries : goal.returns-in-Skipped-clause-entries
+returns-in-Skipped-clause-entries g c =
+    not_behind (sections_in c.args.handle.now) c.args.window c.args.start c.units.unit c.requires.from c.units.invariant.low c.units.invariant.whole
+    (rw c.in-Skipped.is at (c.find_reading.ensures.found (sections_in c.args.handle.now) c.args.window c.requires.reads.each))
 
 pub returns-in-Refused-clause-printed : goal.returns-in-Refused-clause-printed
 returns-in-Refused-clause-printed g c =

@@ -3,6 +3,7 @@ use Rattle.std.proofs.lemmas.List.Elements.{All-nil, All-push}
 use Rattle.map_cells.specs.FollowLaws.{follows_same, follows_then}
 use Rattle.handle_cache.specs.Handles.{sections_in}
 use Rattle.unit_draws.specs.declared.view.DrawView.{DrawView}
+use Rattle.unit_draws.specs.Seats.{occurrences}
 use Rattle.unit_draws.specs.Windows.{IsUnitOfWindow}
 use Rattle.unit_draws.proofs.Occurrences.{occurrences-nil}
 use Rattle.unit_headers.specs.Headers.{unit_count}
@@ -36,17 +37,19 @@ units-preserved g c =
     let r : Reading = c.in-Ok.reading in
     let added : c.add_reading.new.readings.items ≡ c.units.readings.items ++ r ∷ [] = c.in-Ok-add_reading.ensures in
     let drew = c.in-Some.ensures.drawn in
+    let told = c.in-Ok.ensures.keeps in
     let inside : IsUnitOfWindow (unit_count s.info s.order) c.args.window unit = subst (λ (n : ℕ). IsUnitOfWindow n c.args.window unit) c.requires.units c.in-Some.ensures.unit in
     record {
       belongs = c.in-Ok.ensures.belongs;
-      follows = follows_then c.args.pass.now c.units.pass c.read_unit-read.new.pass before.follows c.in-Ok.ensures.follows;
-      of_draws = c.in-Some.ensures.of;
-      keeps = keeps_then c.args.seat.now.knows c.units.seat.knows c.draw.new.seat.knows before.keeps c.in-Some.ensures.numbers;
-      ended = ap (λ (v : DrawView). v.ended) drew ∙ before.ended;
-      drawn = λ u. rw (drew, added) (drawn_more u unit c.args.seat.now.knows.drawn c.units.seat.knows.drawn c.units.readings.items r c.in-Ok.ensures.unit (before.drawn u));
+      follows = follows_then c.args.pass.now c.units.pass c.read_drawn-read.new.pass before.follows c.in-Ok.ensures.follows;
+      of_draws = c.in-Ok.ensures.of;
+      keeps = keeps_then c.args.seat.now.knows c.draw.new.seat.knows c.read_drawn-read.new.seat.knows
+          (keeps_then c.args.seat.now.knows c.units.seat.knows c.draw.new.seat.knows before.keeps c.in-Some.ensures.numbers) told.numbers;
+      ended = told.ended ∙ ap (λ (v : DrawView). v.ended) drew ∙ before.ended;
+      drawn = λ u. ap (occurrences u) (told.drawn ∙ ap (λ (v : DrawView). v.drawn) drew) ∙ rw added (drawn_more u unit c.args.seat.now.knows.drawn c.units.seat.knows.drawn c.units.readings.items r c.in-Ok.ensures.unit (before.drawn u));
       each = rw added (All-push (IsReading s c.args.window) c.units.readings.items r before.each (reading_of s c.args.window unit r c.in-Ok.ensures.unit inside c.in-Ok.ensures.read));
-      noted = rw added (notes_more s c.units.pass c.read_unit-read.new.pass unit c.units.readings.items r c.in-Ok.ensures.unit c.in-Ok.ensures.follows before.noted c.in-Ok.ensures.noted);
-      reads = reads_then s c.args.pass.now c.units.pass c.read_unit-read.new.pass c.args.steps.now c.units.steps c.read_unit-read.new.steps before.follows before.reads c.in-Ok.ensures.reads;
+      noted = rw added (notes_more s c.units.pass c.read_drawn-read.new.pass unit c.units.readings.items r c.in-Ok.ensures.unit c.in-Ok.ensures.follows before.noted c.in-Ok.ensures.noted);
+      reads = reads_then s c.args.pass.now c.units.pass c.read_drawn-read.new.pass c.args.steps.now c.units.steps c.read_drawn-read.new.steps before.follows before.reads c.in-Ok.ensures.reads;
     }
 
 pub returns-clause-serves : goal.returns-clause-serves

@@ -1,9 +1,0 @@
-use Rattle.std.proofs.Common.{◌≡◌}
-use Rattle.unit_draws.specs.Seats.{IsSeatOf, KeepsNumbers, places_ahead}
-use Rattle.unit_draws.proofs.tests.Worker.draw_window.Given as goal
-
-abbrev pub invariant-loop-unit : goal.invariant-loop-unit
-invariant-loop-unit l = IsSeatOf l.draws l.self.seat × KeepsNumbers l.fn.self.seat.knows l.self.seat.knows × (l.self.seat.knows.ended ≡ l.fn.self.seat.knows.ended)
-
-abbrev pub decreases-loop-unit : goal.decreases-loop-unit
-decreases-loop-unit l = places_ahead l.window l.self.seat.knows

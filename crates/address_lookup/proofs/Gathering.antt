@@ -1,5 +1,5 @@
 -- What a step leaves of the tables that are gathered.
-use Rattle.std.proofs.Common.{◌≡◌, ◌∙◌, ◌⊎◌, ◌<◌, ◌^◌, ℕ, Bool, true, false, cond, not, List, [], ◌∷◌, ◌++◌, length, map, Option, Some, None, option_map, option_and_then, IfSome, Result, Ok, Err, OnOk, refl, sym, ap, subst, inl, inr, arith}
+use Rattle.std.proofs.Common.{◌≡◌, ◌∙◌, ◌⊎◌, ◌<◌, ◌^◌, ℕ, Bool, true, false, cond, [], ◌∷◌, ◌++◌, length, map, Option, Some, None, option_map, option_and_then, IfSome, Result, Ok, Err, OnOk, refl, sym, ap, subst, inl, inr, arith}
 use Rattle.std.specs.declared.cmp.Ordering.{Ordering}
 use Rattle.std.specs.declared.cmp.Ordering.TheVariants.{Less, Equal, Greater}
 use Rattle.std.specs.BTreeSet.{BTreeSet}
@@ -11,7 +11,6 @@ use Rattle.std.proofs.lemmas.Map.Lookups.{CmpEqualImpliesEq, exact_pairs, exact_
 use Rattle.elf_sections.specs.Shapes.{SectionsView}
 use Rattle.line_programs.specs.LineTables.{table_of}
 use Rattle.row_index.specs.Rows.{row_at}
-use Rattle.address_lookup.specs.declared.names.UnitNames.{UnitNames}
 use Rattle.address_lookup.specs.declared.programs.ProgramKey.{ProgramKey}
 use Rattle.address_lookup.specs.declared.programs.UnitProgram.{UnitProgram}
 use Rattle.address_lookup.specs.declared.tables.Tables.{Tables}

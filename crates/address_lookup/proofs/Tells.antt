@@ -1,5 +1,5 @@
 -- Tables that are gathered one behind another, and what they tell.
-use Rattle.std.proofs.Common.{◌≡◌, ◌∙◌, ◌⊎◌, ◌-◌, ◌+◌, ◌<◌, ◌≤◌, ℕ, suc, true, List, [], ◌∷◌, ◌++◌, length, map, Option, Some, None, option_map, refl, sym, ap, subst, inl, inr, arith}
+use Rattle.std.proofs.Common.{◌≡◌, ◌∙◌, ◌-◌, ◌+◌, ◌<◌, ◌≤◌, ℕ, suc, List, [], ◌∷◌, ◌++◌, length, Option, Some, None, option_map, refl, sym, ap, arith}
 use Rattle.std.specs.Option.{option_or}
 use Rattle.elf_sections.specs.Shapes.{SectionsView}
 use Rattle.line_machine.specs.declared.registers.Row.{Row}

@@ -1,5 +1,5 @@
 -- The line tables of units: DWARF 5, sections 3.1.1 and 6.2.
-use Rattle.std.specs.Prelude.{ℕ, Option, Some, None, Result, Ok, Err, option_map, option_and_then}
+use Rattle.std.specs.Prelude.{ℕ, Option, None, Result, Ok, Err, option_map, option_and_then}
 use Rattle.std.specs.Result.{result_ok}
 use Rattle.dw_fields.specs.declared.fault_code.Fault.{Fault}
 use Rattle.dw_fields.specs.Reading.{◌>>=◌}

@@ -20,7 +20,8 @@ use unit_headers::UnitIndex;
 /// The rows of the line tables of all units, by address.
 ///
 /// Contracts see it as the sections that it was built from. It keeps 24 bytes for each row and the
-/// directories and files of each unit; a program that several units name is kept once.
+/// directories and files of each unit; a program that several units name is kept once. One that was
+/// built for a few addresses sorts nothing.
 #[derive(Drop)]
 pub struct AddressIndex<'f> {
     sections: Sections<'f>,
@@ -86,6 +87,32 @@ impl<'f> AddressIndex<'f> {
         let tables = gather(alloc, sections, index, decls, steps)?;
         let units = tables.units;
         let rows = RowIndex::build(alloc, tables.rows)?;
+        Ok(AddressIndex {
+            sections: *sections,
+            units,
+            rows,
+        })
+    }
+
+    /// The same for a few addresses: nothing is sorted, and each is found by a walk over all rows.
+    ///
+    /// # Errors
+    /// [`AllocError`] for want of memory.
+    pub fn build_for_few<D: Decls<'f>, L>(
+        alloc: Global,
+        sections: &Sections<'f>,
+        index: &UnitIndex<'f>,
+        decls: &mut D,
+        steps: &mut Steps<L>,
+    ) -> Result<AddressIndex<'f>, AllocError>
+        requires index { index.now ≡ units_of (sections_view sections.now) }
+        requires section { D.section decls.old ≡ (sections_view sections.now).«abbrev» }
+        ensures index { IfOk result (λ x. x ≡ sections_view sections.entry.now) }
+        ensures follows { D.follows decls.old decls.new }
+    {
+        let tables = gather(alloc, sections, index, decls, steps)?;
+        let units = tables.units;
+        let rows = RowIndex::unsorted(tables.rows);
         Ok(AddressIndex {
             sections: *sections,
             units,

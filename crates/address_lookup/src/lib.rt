@@ -5,7 +5,8 @@
 //! [`AddressIndex::place_of`] bisects, and takes no memory. Promised: what it answers is `place_of` of
 //! `specs/Places.antt`, the place of the first pair of neighbouring rows, in the order of units and
 //! rows, that covers the address; that definition sorts nothing. [`AddressIndex::place_of_slowly`]
-//! answers the same by a walk over all rows.
+//! answers the same by a walk over all rows, and so does `place_of` of an index for a few addresses
+//! ([`AddressIndex::build_for_few`]).
 #![tactic(auto)]
 
 mod address_index;

@@ -9,8 +9,6 @@
 #[cfg(test)]
 mod dumps;
 #[cfg(test)]
-mod exercises;
-#[cfg(test)]
 mod files;
 #[cfg(test)]
 mod gates;

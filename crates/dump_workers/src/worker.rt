@@ -243,7 +243,8 @@ impl<'w, 'f, G: Gate, L> Serves<DumpSeat<'f, L>> for WindowWork<'w, 'f, G> {
     ghost use Rattle.dump_workers.specs.declared.serving.TheConstants.{MOST_WORKERS};
     ghost use Rattle.dump_workers.specs.Windows.{LeavesServed, MayServe};
 
-    ghost accepts = { λ w i seat. (i < MOST_WORKERS) × MayServe w.handle.now w.draws.now w.window seat };
+    ghost accepts = { λ w i seat. (i < MOST_WORKERS)
+        × MayServe w.handle.now w.draws.now w.window seat };
 
     ghost gives = { λ w i old new. LeavesServed w.handle.now w.draws.now w.window old new };
 

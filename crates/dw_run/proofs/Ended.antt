@@ -172,6 +172,24 @@ ends_on_file name text tells holds front items status published out0 out1 err0 e
   stopped = λ above. line_of_whole (holds name) text tells front items status out0 out1 err0 err1 out_faults0 out_faults1 err_faults0 err_faults1 source0 source1 same is end;
 }
 
+-- the same of bytes that no name holds
+pub ends_on_bytes : (bytes : List ℕ) (text : ElfView → CommandText) (tells : Option (ElfView → PublishedView)) (holds : List ℕ → Option (List ℕ)) (status : ℕ)
+    (published : Option PublishedView) (out0 out1 err0 err1 : Option (List ℕ)) (source0 source1 out_faults0 out_faults1 err_faults0 err_faults1 : ℕ)
+    → Ends (text_of_file text bytes) status out0 out1 err0 err1 out_faults0 out_faults1 err_faults0 err_faults1
+    → published ≡ told_at status (tells_of_file tells bytes)
+    → EndsRun (Some (record { bytes = λ holds. Some bytes; text = text; tells = tells })) holds status published out0 out1 err0 err1 source0 source1 out_faults0 out_faults1 err_faults0 err_faults1
+ends_on_bytes bytes text tells holds status published out0 out1 err0 err1 source0 source1 out_faults0 out_faults1 err_faults0 err_faults1 end told = record {
+  answers = at_most_five status end.answers;
+  output = λ below. meets_telling _ _ _ _ _ _ _ (end.whole (below_two status below end.answers));
+  told = told ∙ told_on_file (text_of_file text bytes) (tells_of_file tells bytes) status out0 out1 err0 err1 out_faults0 out_faults1 err_faults0 err_faults1 end;
+  meaningless = λ two. absurd (not_two status end.answers two);
+  read = λ three. absurd (not_three status end.answers three);
+  unread = λ three. absurd (not_three status end.answers three);
+  written = end.failed;
+  prefix = end.part;
+  stopped = λ above. inl end.line;
+}
+
 -- what holds of every output
 of_each : (output : Option Output) (P : Output → Type 0) → ((o : Output) → P o) → IfSome output P
 of_each None P all = tt

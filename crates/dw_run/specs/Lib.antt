@@ -2,6 +2,7 @@ pub mod AddressLines
 pub mod Commands
 pub mod CommandTexts
 pub mod DumpTexts
+pub mod ExerciseTexts
 pub mod FirstRefusal
 pub mod FileRequests
 pub mod Endings
@@ -9,3 +10,4 @@ pub mod Output
 pub mod RefusalLines
 pub mod Parts
 pub mod Queries
+pub mod WalkedTables

@@ -72,7 +72,7 @@ abbrev pub output_of_request : Option FileRequest → (List ℕ → Option (List
 output_of_request None holds = Some misunderstood
 output_of_request (Some request) holds =
     option_map (λ file. output_of_text (text_of_file request.text file) (tells_of_file request.tells file))
-    (holds request.file)
+    (request.bytes holds)
 
 -- the output; none where the source doesn't tell what the name holds
 abbrev pub output_of : List (List ℕ) → List Named → (List ℕ → Option (List ℕ)) → Option Output

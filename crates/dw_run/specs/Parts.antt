@@ -17,8 +17,8 @@ use Rattle.dw_run.specs.declared.parts.Part.TheVariants as parts
 use Rattle.dw_run.specs.CommandTexts.{CommandText, units_printed}
 
 -- what a unit's first entry says of it, and all its entries: refused at its root, or else at an entry
-unfoldable pub unit_of : SectionsView → UnitHeader → Result (UnitFacts × List EntryView) Fault
-unit_of s header = do
+unfoldable pub facts_and_entries : SectionsView → UnitHeader → Result (UnitFacts × List EntryView) Fault
+facts_and_entries s header = do
   facts ← facts_of s header
   entries ← entries_of s header
   Ok (facts, entries)
@@ -37,7 +37,7 @@ part_of parts.LineTable s header = do
   facts ← facts_of s header
   lines_text s header facts.line
 part_of parts.Lists s header = do
-  unit ← unit_of s header
+  unit ← facts_and_entries s header
   lists_text (record { sections = s; header = header; facts = unit.0 }) unit.1
 
 -- a part of the unit with this number, which is refused at its header first

@@ -21,6 +21,9 @@ use std::alloc::{AllocError, Global};
 /// How long a text of lines may grow before it is written.
 const MOST_KEPT: usize = 65536;
 
+/// How many addresses are looked up without sorting the rows: a walk takes less time than a sort.
+const FEW: usize = 4;
+
 /// The places of these addresses.
 #[derive(Drop)]
 pub(crate) struct Addresses<'w> {
@@ -55,31 +58,36 @@ impl<'w> OpenedCommand for Addresses<'w> {
         pass: &mut HandlePass<'f>,
         out: &mut O,
     ) -> Result<Option<Refusal>, WriteStop> {
-        match index_of(alloc, handle, pass) {
+        match index_of(alloc, handle, pass, self.addresses.len()) {
             Ok(index) => print_lines(alloc, &index, self.addresses, out),
             Err(_) => Err(WriteStop::OutOfMemory),
         }
     }
 }
 
-/// The index of an opened file, whose declarations are looked up through the pass.
+/// The index of an opened file for so many addresses. Declarations are looked up through the pass.
 fn index_of<'f>(
     alloc: Global,
     handle: &Handle<'f>,
     pass: &mut HandlePass<'f>,
+    count: usize,
 ) -> Result<AddressIndex<'f>, AllocError>
     requires { Belongs handle.now pass.old }
     ensures { IfOk result (λ index. index ≡ sections_in handle.entry.now) }
 {
     let mut steps = Steps::start(());
     let mut cached = Cached { handle, pass };
-    AddressIndex::build(
-        alloc,
-        handle.sections(),
-        handle.index(),
-        &mut cached,
-        &mut steps,
-    )
+    let sections = handle.sections();
+    if count <= FEW {
+        return AddressIndex::build_for_few(
+            alloc,
+            sections,
+            handle.index(),
+            &mut cached,
+            &mut steps,
+        );
+    }
+    AddressIndex::build(alloc, sections, handle.index(), &mut cached, &mut steps)
 }
 
 /// Writes the line of each address.

@@ -4,7 +4,7 @@ ghost use Rattle.std.specs.Prelude.{◌≡◌, ◌<◌, ◌≤◌, ◌⊎◌, []
 ghost use Rattle.std.specs.String.{string_bytes};
 ghost use Rattle.dw_outside.specs.Faults.{Rose};
 ghost use Rattle.dw_outside.specs.Gains.{Gains, GainsPart};
-ghost use Rattle.dw_words.specs.Requests.{HasFewWorkers, request_view};
+ghost use Rattle.dw_words.specs.Requests.{IsWithinLimits, request_view};
 ghost use Rattle.dw_run.specs.Endings.{EndsWith, misunderstood_line, unread_line};
 ghost use Rattle.dw_run.specs.FileRequests.{asked_by, file_request_of};
 ghost use Rattle.dw_run.specs.Output.{EndsRun, Meets, NothingFailed, StopsWithin, output_of, told_at};
@@ -12,6 +12,7 @@ ghost use Rattle.dw_run.specs.Output.{EndsRun, Meets, NothingFailed, StopsWithin
 use crate::addresses::Addresses;
 use crate::dump::{DumpWords, answer_dump};
 use crate::endings::{NO_MEANING, NO_MEMORY, RunEnd, end_with};
+use crate::exercise::answer_exercise;
 use crate::file_command::answer_on_file;
 use crate::queries::Query;
 use dw_outside::{Gate, Sink, Source};
@@ -28,7 +29,8 @@ use visit_queries::{IsNamed, NamedVisitor, pick};
 /// A dump has as many workers as its words say, in threads of their own where these can be made. The gate
 /// is entered before a worker reads a unit and left behind it. The bytes are those of reading unit after
 /// unit anew, whatever the number of workers. A whole dump tells how many of the file's keys are in
-/// the table of the file's handle.
+/// the table of the file's handle. `exercise` reads no file: it makes one in memory, dumps that twice by as
+/// many workers, and writes what came of it.
 pub fn run<R: Threads + Sync, S: Source, O: Sink, E: Sink, G: Gate + Sync>(
     rt: &R,
     alloc: Global,
@@ -122,7 +124,7 @@ fn answer<R: Threads + Sync, S: Source, O: Sink, E: Sink, G: Gate + Sync>(
     visitors: Vec<NamedVisitor>,
     gate: &G,
 ) -> RunEnd
-    requires { HasFewWorkers (request_view request.now) }
+    requires { IsWithinLimits (request_view request.now) }
     ensures { EndsRun (file_request_of (map ⟦<NamedVisitor as IsNamed>⟧.named visitors.items)
         (request_view request.now)) (S.holds source.old) result.status result.published
         (O.held out.old) (O.held out.new) (E.held err.old) (E.held err.new)
@@ -157,7 +159,9 @@ fn answer<R: Threads + Sync, S: Source, O: Sink, E: Sink, G: Gate + Sync>(
             }
             None => RunEnd::of(end_misunderstood(err)),
         },
-        Request::Exercise { .. } => RunEnd::of(end_misunderstood(err)),
+        Request::Exercise { units, workers } => {
+            answer_exercise(rt, alloc, *units as u32, *workers as u32, out, err, gate)
+        }
     }
 }
 

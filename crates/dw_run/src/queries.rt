@@ -2,7 +2,7 @@
 
 ghost use Rattle.dw_outside.specs.Faults.{HasCause};
 ghost use Rattle.dw_outside.specs.declared.stops.WriteStop.TheVariants as write_stops;
-ghost use Rattle.handle_cache.specs.Handles.{Belongs, sections_in};
+ghost use Rattle.handle_cache.specs.Handles.{sections_in};
 ghost use Rattle.visit_queries.specs.Seen.{Walks, report_on};
 ghost use Rattle.visit_queries.specs.Shown.{met_in};
 ghost use Rattle.dw_run.specs.CommandTexts.{Prints};
@@ -11,9 +11,10 @@ ghost use Rattle.dw_run.specs.Queries.{query_printed};
 use crate::file_command::FileCommand;
 use crate::opened::{OpenedCommand, open_and_print};
 use crate::refusals::Refusal;
+use crate::walked_table::TableWalker;
 use abbrev_decl::Steps;
 use dw_outside::{Sink, WriteStop, write_all};
-use handle_cache::{Cached, Handle, HandlePass};
+use handle_cache::{Handle, HandlePass};
 use std::alloc::Global;
 use visit_queries::{Visitor, WalkStop, walk};
 
@@ -56,30 +57,28 @@ impl OpenedCommand for Query {
         self,
         alloc: Global,
         handle: &Handle<'f>,
-        pass: &mut HandlePass<'f>,
+        _pass: &mut HandlePass<'f>,
         out: &mut O,
     ) -> Result<Option<Refusal>, WriteStop> {
-        print_report(alloc, self.visitor, handle, pass, out)
+        print_report(alloc, self.visitor, handle, out)
     }
 }
 
 /// Writes the report of a visitor on all entries of an opened file; nothing where a unit is refused that
 /// is reached.
-fn print_report<'f, V: Visitor, O: Sink>(
+fn print_report<V: Visitor, O: Sink>(
     alloc: Global,
     visitor: V,
-    handle: &Handle<'f>,
-    pass: &mut HandlePass<'f>,
+    handle: &Handle<'_>,
     out: &mut O,
 ) -> Result<Option<Refusal>, WriteStop>
-    requires { Belongs handle.now pass.old }
     ensures printed { Prints result (query_printed
         (record { state = V.state visitor; step = V.step visitor; text = V.text visitor })
         (sections_in handle.now)) (O.held out.old) (O.held out.new) }
     ensures cause { HasCause write_stops.Failed (O.faults out.old) (O.faults out.new) result }
 {
     let mut text = Vec::new(alloc);
-    match write_report(alloc, visitor, handle, pass, &mut text) {
+    match write_report(alloc, visitor, handle, &mut text) {
         Ok(()) => match write_all(out, text.as_slice()) {
             Ok(()) => Ok(None),
             Err(stop) => Err(stop),
@@ -89,26 +88,26 @@ fn print_report<'f, V: Visitor, O: Sink>(
     }
 }
 
-/// Appends the report of a visitor, whose declarations are looked up through the pass.
-fn write_report<'f, V: Visitor>(
+/// Appends the report of a visitor. The file is read once, unit after unit, so no declaration is put into
+/// the shared table: each is passed once on the way.
+fn write_report<V: Visitor>(
     alloc: Global,
     visitor: V,
-    handle: &Handle<'f>,
-    pass: &mut HandlePass<'f>,
+    handle: &Handle<'_>,
     text: &mut Vec<u8>,
 ) -> Result<(), WalkStop>
-    requires { Belongs handle.now pass.old }
     ensures { Walks result text.old.items text.new.items (report_on
         (record { state = V.state visitor; step = V.step visitor; text = V.text visitor })
         (met_in (sections_in handle.entry.now))) }
 {
     let mut steps = Steps::start(());
-    let mut cached = Cached { handle, pass };
+    let sections = handle.sections();
+    let mut walker = TableWalker::new(alloc, sections.abbrev);
     walk(
         alloc,
-        handle.sections(),
+        sections,
         handle.index(),
-        &mut cached,
+        &mut walker,
         visitor,
         text,
         &mut steps,

@@ -1,6 +1,6 @@
 //! The lines of refusals.
 
-ghost use Rattle.std.specs.Prelude.{◌≡◌, IfOk};
+ghost use Rattle.std.specs.Prelude.{◌≡◌, ◌≤◌, IfOk};
 ghost use Rattle.dw_text.specs.Added.{Adds};
 ghost use Rattle.dw_run.specs.RefusalLines.{file_refusal_line, file_number, fault_text, refusal_line, section_text, tables_fault_line, unit_fault_line};
 
@@ -41,8 +41,10 @@ fn push_file_line(line: &mut Vec<u8>, refusal: &ElfRefusal) -> Result<(), AllocE
     Ok(())
 }
 
-fn file_number(refusal: &ElfRefusal) -> u64
-    ensures { result ≡ file_number refusal.now }
+/// The number of a file's refusal, from 1 to 10 (docs/FORMATS.md).
+pub fn file_number(refusal: &ElfRefusal) -> u64
+    ensures number { result ≡ file_number refusal.now }
+    ensures few { result ≤ 10 }
 {
     match refusal {
         ElfRefusal::NotElf => 1,

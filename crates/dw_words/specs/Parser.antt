@@ -3,7 +3,7 @@ use Rattle.std.specs.Prelude.{◌≡◌, ◌≤◌, ℕ, zero, suc, true, List, 
 use Rattle.clap.specs.Words.{App, Row, Rule, all_of, first_of, found_of, new_app, new_rule, one_of, rows_of, with_rule}
 use Rattle.clap.specs.declared.builder.action.ArgAction.TheVariants.{Append, SetTrue}
 use Rattle.clap.specs.declared.parser.matches.ArgMatches.{ArgMatches}
-use Rattle.dw_words.specs.GivenWords.{GivenWords, Meaning, Text, settle, worker_count}
+use Rattle.dw_words.specs.GivenWords.{GivenWords, Meaning, WordBytes, settle, worker_count}
 use Rattle.dw_words.specs.declared.refusals.WordsRefusal.{WordsRefusal}
 use Rattle.dw_words.specs.declared.refusals.WordsRefusal.TheVariants as refusals
 
@@ -33,7 +33,7 @@ words_app = with_rule (with_rule (with_rule bare_app workers_rule) stats_rule) r
 -- ---- what stands in the matches of a parse that succeeds
 
 -- the text that the flag's getter reads
-abbrev pub flag_text : ℕ → Text
+abbrev pub flag_text : ℕ → WordBytes
 flag_text zero = codes "false"
 flag_text (suc n) = codes "true"
 
@@ -42,12 +42,12 @@ workers_of_count None = Err refusals.NoMeaning
 workers_of_count (Some n) = Ok (Some n)
 
 -- the number of workers of the option's value
-abbrev pub workers_of : Option Text → Result (Option ℕ) WordsRefusal
+abbrev pub workers_of : Option WordBytes → Result (Option ℕ) WordsRefusal
 workers_of None = Ok None
 workers_of (Some value) = workers_of_count (worker_count value)
 
 -- the values, where there are any
-abbrev pub listed : List Text → Option (List Text)
+abbrev pub listed : List WordBytes → Option (List WordBytes)
 listed [] = None
 listed (value ∷ values) = Some (value ∷ values)
 

@@ -3,7 +3,7 @@
 ghost use Rattle.std.specs.Prelude.{◌≡◌, IfOk, IfSome, map, option_map};
 ghost use Rattle.std.specs.String.{string_bytes};
 ghost use Rattle.dw_words.specs.GivenWords.{AreFewWorkers, meaning_view};
-ghost use Rattle.dw_words.specs.Requests.{AreAddresses, HasFewWorkers, IsRequest, addresses_of};
+ghost use Rattle.dw_words.specs.Requests.{AreAddresses, AreFewUnits, IsWithinLimits, IsRequest, addresses_of};
 ghost use Rattle.dw_words.specs.Requests.{addresses_request, asked, dump_request, exercise_asked};
 ghost use Rattle.dw_words.specs.Requests.{exercise_request, file_asked, file_request};
 ghost use Rattle.dw_words.specs.Requests.{meaning_of, plain_asked, query_request, request_view};
@@ -80,7 +80,7 @@ pub enum Request<'w> {
 #[tactic(auto, unfolding(crate::specs::Requests::meaning_of))]
 pub fn read_words<'w>(alloc: Global, words: &'w [String]) -> Result<Request<'w>, WordsRefusal>
     ensures request { IsRequest result (meaning_of (map string_bytes words.entry.now)) }
-    ensures workers { IfOk result (λ request. HasFewWorkers (request_view request)) }
+    ensures workers { IfOk result (λ request. IsWithinLimits (request_view request)) }
 {
     let [name, behind @ ..] = words else {
         return Err(WordsRefusal::NoMeaning);
@@ -94,7 +94,7 @@ pub fn read_words<'w>(alloc: Global, words: &'w [String]) -> Result<Request<'w>,
 fn request_of<'w>(alloc: Global, name: &str, given: &Given<'w>) -> Result<Request<'w>, WordsRefusal>
     requires { IfSome given.now.workers AreFewWorkers }
     ensures request { IsRequest result (asked name.now (meaning_view given.now)) }
-    ensures workers { IfOk result (λ request. HasFewWorkers (request_view request)) }
+    ensures workers { IfOk result (λ request. IsWithinLimits (request_view request)) }
 {
     match name {
         "addr" => match words_alone(given) {
@@ -114,7 +114,7 @@ fn plain_request<'w>(name: &str, given: &Given<'w>) -> Option<Request<'w>>
     requires { IfSome given.now.workers AreFewWorkers }
     ensures request { option_map request_view result
         ≡ plain_asked name.now (meaning_view given.now) }
-    ensures workers { IfSome result (λ request. HasFewWorkers (request_view request)) }
+    ensures workers { IfSome result (λ request. IsWithinLimits (request_view request)) }
 {
     match name {
         "query" => match words_alone(given) {
@@ -136,7 +136,7 @@ fn plain_request<'w>(name: &str, given: &Given<'w>) -> Option<Request<'w>>
 fn file_asked<'w>(name: &str, given: &Given<'w>) -> Option<Request<'w>>
     ensures request { option_map request_view result
         ≡ file_asked name.now (meaning_view given.now) }
-    ensures workers { IfSome result (λ request. HasFewWorkers (request_view request)) }
+    ensures workers { IfSome result (λ request. IsWithinLimits (request_view request)) }
 {
     match find_command(name) {
         Some(command) => match words_alone(given) {
@@ -151,7 +151,7 @@ fn file_asked<'w>(name: &str, given: &Given<'w>) -> Option<Request<'w>>
 fn file_request<'w>(command: Command, words: &[&'w str]) -> Option<Request<'w>>
     ensures request { option_map request_view result
         ≡ file_request command (map (λ word. word.now) words.now) }
-    ensures workers { IfSome result (λ request. HasFewWorkers (request_view request)) }
+    ensures workers { IfSome result (λ request. IsWithinLimits (request_view request)) }
 {
     let [file] = words else {
         return None;
@@ -168,7 +168,7 @@ fn dump_request<'w>(workers: u64, stats: bool, words: &[&'w str]) -> Option<Requ
     requires { AreFewWorkers workers }
     ensures request { option_map request_view result
         ≡ dump_request workers stats (map (λ word. word.now) words.now) }
-    ensures workers { IfSome result (λ request. HasFewWorkers (request_view request)) }
+    ensures workers { IfSome result (λ request. IsWithinLimits (request_view request)) }
 {
     let [file] = words else {
         return None;
@@ -184,7 +184,7 @@ fn dump_request<'w>(workers: u64, stats: bool, words: &[&'w str]) -> Option<Requ
 #[tactic(auto, unfolding(crate::specs::Requests::addresses_request))]
 fn addresses_request<'w>(alloc: Global, words: &[&'w str]) -> Result<Request<'w>, WordsRefusal>
     ensures request { IsRequest result (addresses_request (map (λ word. word.now) words.now)) }
-    ensures workers { IfOk result (λ request. HasFewWorkers (request_view request)) }
+    ensures workers { IfOk result (λ request. IsWithinLimits (request_view request)) }
 {
     let [file, behind @ ..] = words else {
         return Err(WordsRefusal::NoMeaning);
@@ -218,7 +218,7 @@ fn read_addresses(alloc: Global, words: &[&str]) -> Result<Vec<u64>, WordsRefusa
 fn query_request<'w>(words: &[&'w str]) -> Option<Request<'w>>
     ensures request { option_map request_view result
         ≡ query_request (map (λ word. word.now) words.now) }
-    ensures workers { IfSome result (λ request. HasFewWorkers (request_view request)) }
+    ensures workers { IfSome result (λ request. IsWithinLimits (request_view request)) }
 {
     let [visitor, file] = words else {
         return None;
@@ -233,7 +233,7 @@ fn query_request<'w>(words: &[&'w str]) -> Option<Request<'w>>
 fn exercise_asked<'w>(given: &Given<'w>) -> Option<Request<'w>>
     requires { IfSome given.now.workers AreFewWorkers }
     ensures request { option_map request_view result ≡ exercise_asked (meaning_view given.now) }
-    ensures workers { IfSome result (λ request. HasFewWorkers (request_view request)) }
+    ensures workers { IfSome result (λ request. IsWithinLimits (request_view request)) }
 {
     if given.stats {
         return None;
@@ -249,7 +249,7 @@ fn exercise_request<'w>(workers: u64, words: &[&'w str]) -> Option<Request<'w>>
     requires { AreFewWorkers workers }
     ensures request { option_map request_view result
         ≡ exercise_request workers (map (λ word. word.now) words.now) }
-    ensures workers { IfSome result (λ request. HasFewWorkers (request_view request)) }
+    ensures workers { IfSome result (λ request. IsWithinLimits (request_view request)) }
 {
     let [word] = words else {
         return None;
@@ -263,7 +263,8 @@ fn exercise_request<'w>(workers: u64, words: &[&'w str]) -> Option<Request<'w>>
 /// The number of units that a word names.
 #[tactic(auto, unfolding(crate::specs::Requests::unit_count))]
 fn read_unit_count(word: &str) -> Option<u64>
-    ensures { result ≡ unit_count word.now }
+    ensures count { result ≡ unit_count word.now }
+    ensures few { IfSome result AreFewUnits }
 {
     match read_decimal(word) {
         Some(count) if 1 <= count && count <= MOST_UNITS => Some(count),

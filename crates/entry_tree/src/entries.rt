@@ -98,7 +98,8 @@ fn read_entry<'a, 'f: 'a, D: Decls<'f>, K: AttrNames, L>(
     requires remembers { Remembers (D.section decls.old) header.now.«abbrev» (D.seen decls.old)
         (D.spent decls.old) memo.old.slots.items }
     ensures entry { AnswersAt stepped_view result
-        (kept_entry_at K.keeps (D.section decls.old) header.now.«abbrev» (widths_of header.now) depth)
+        (kept_entry_at K.keeps (D.section decls.old) header.now.«abbrev» (widths_of header.now)
+        depth)
         cut.old cut.new }
     ensures forward { IfOk result (λ s.
         (cut.old.place + 1 ≤ cut.new.place) × (s.depth ≤ depth + 1)) }
@@ -178,8 +179,8 @@ fn read_area<'a, 'f: 'a, D: Decls<'f>, K: AttrNames, L>(
     requires size { IsAddressSize header.now.address_size }
     requires short { cut.old.end < 2 ^ 32 }
     ensures entries { Answers (λ s. map entry_view s.now)
-        result (kept_entries_in K.keeps (D.section decls.old) header.now.«abbrev» (widths_of header.now)
-        cut.old) }
+        result (kept_entries_in K.keeps (D.section decls.old) header.now.«abbrev»
+        (widths_of header.now) cut.old) }
     ensures follows { D.follows decls.old decls.new }
     ensures placed { GainsOnly (IsFoundKey (D.section decls.old) header.now.«abbrev»)
         (D.placed decls.old) (D.placed decls.new) }

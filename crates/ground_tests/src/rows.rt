@@ -29,7 +29,13 @@ fn the_first_pair_in_unit_and_row_order_is_found(rt: HostRuntime) {
         row(60, 11, false),
     ];
     let units = vec![in rt.alloc(); first.expect(&rt, "rows"), second.expect(&rt, "rows")];
-    let index = RowIndex::build(rt.alloc(), units.expect(&rt, "units")).expect(&rt, "memory");
+    let units = units.expect(&rt, "units");
+    let again = vec![in rt.alloc();
+        units[0].clone().expect(&rt, "rows"),
+        units[1].clone().expect(&rt, "rows"),
+    ];
+    let unsorted = RowIndex::unsorted(again.expect(&rt, "units"));
+    let index = RowIndex::build(rt.alloc(), units).expect(&rt, "memory");
     for (address, found) in [
         (0, Some((1, 8))),
         (3, Some((1, 8))),
@@ -55,5 +61,6 @@ fn the_first_pair_in_unit_and_row_order_is_found(rt: HostRuntime) {
             found
         );
         assert_eq!(rt; index.find_slowly(address), index.find(address));
+        assert_eq!(rt; unsorted.find(address), index.find(address));
     }
 }

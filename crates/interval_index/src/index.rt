@@ -35,7 +35,8 @@ impl IntervalIndex {
     /// # Errors
     /// [`AllocError`] for want of memory.
     pub fn build(alloc: Global, intervals: &[Interval]) -> Result<IntervalIndex, AllocError>
-        ensures { IfOk result (λ index. (n : ℕ) → first_covering index n ≡ first_with intervals.now n) }
+        ensures { IfOk result (λ index. (n : ℕ)
+            → first_covering index n ≡ first_with intervals.now n) }
     {
         let boundaries = lay(alloc, 0, intervals)?;
         Ok(IntervalIndex { boundaries })

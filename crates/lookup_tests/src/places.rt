@@ -1,6 +1,6 @@
 //! The places of addresses, as both calls answer them.
 
-use crate::programs::{APART, AROUND, FILES, SEQUENCE, Unit, index_of, info_of};
+use crate::programs::{APART, AROUND, FILES, SEQUENCE, Unit, few_index_of, index_of, info_of};
 use address_lookup::AddressIndex;
 use std::alloc::{AllocError, Global};
 
@@ -19,7 +19,8 @@ fn told(index: &AddressIndex<'_>, address: u64) -> Option<(u32, u64)> {
     }
 }
 
-/// Whether these addresses have these units and lines, in a file of these units.
+/// Whether these addresses have these units and lines, in a file of these units; with an index for a few
+/// addresses, too.
 fn are_told(
     alloc: Global,
     units: &[Unit],
@@ -27,8 +28,9 @@ fn are_told(
 ) -> Result<bool, AllocError> {
     let info = info_of(alloc, units)?;
     let index = index_of(alloc, &info)?;
+    let few = few_index_of(alloc, &info)?;
     for (address, place) in wanted {
-        if told(&index, *address) != *place {
+        if told(&index, *address) != *place || told(&few, *address) != *place {
             return Ok(false);
         }
     }

@@ -85,22 +85,40 @@ pub fn info_of(alloc: Global, units: &[Unit]) -> Result<Vec<u8>, AllocError> {
 
 /// The index of these units.
 pub fn index_of(alloc: Global, info: &[u8]) -> Result<AddressIndex<'_>, AllocError> {
-    let sections = Sections {
+    build(alloc, &sections_of(info), false)
+}
+
+/// The same for a few addresses.
+pub fn few_index_of(alloc: Global, info: &[u8]) -> Result<AddressIndex<'_>, AllocError> {
+    build(alloc, &sections_of(info), true)
+}
+
+/// Sections with these units and the line programs.
+fn sections_of(info: &[u8]) -> Sections<'_>
+    ensures { length (sections_view result).«abbrev» < 2 ^ 32 }
+{
+    Sections {
         info,
         abbrev: &ABBREV,
         line: Some(&LINES),
         ..Sections::none(Order::Little)
-    };
-    build(alloc, &sections)
+    }
 }
 
 /// The index of the units of these sections.
-fn build<'f>(alloc: Global, sections: &Sections<'f>) -> Result<AddressIndex<'f>, AllocError>
+fn build<'f>(
+    alloc: Global,
+    sections: &Sections<'f>,
+    few: bool,
+) -> Result<AddressIndex<'f>, AllocError>
     requires { length (sections_view sections.now).«abbrev» < 2 ^ 32 }
 {
     let abbrev_length = sections.abbrev.len() as u64;
     let index = UnitIndex::read(alloc, sections.info, abbrev_length, sections.order)?;
     let mut declarations = Scanner::new(sections.abbrev);
     let mut steps = Steps::start(());
+    if few {
+        return AddressIndex::build_for_few(alloc, sections, &index, &mut declarations, &mut steps);
+    }
     AddressIndex::build(alloc, sections, &index, &mut declarations, &mut steps)
 }

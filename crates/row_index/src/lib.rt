@@ -6,7 +6,8 @@
 //! that covers it, in the order of units and rows (`specs/Rows.antt`). Rows may go backwards, and
 //! sequences may overlap. [`RowIndex::build`] keeps each row once, and takes time in the order of
 //! `n log n` on any input; [`RowIndex::find`] bisects twice and takes no memory. Promised: what it
-//! answers is what a walk over all rows finds, as [`RowIndex::find_slowly`] does.
+//! answers is what a walk over all rows finds, as [`RowIndex::find_slowly`] does. Of rows that are left
+//! as they are ([`RowIndex::unsorted`]) both walk.
 #![tactic(auto)]
 
 mod row_index;

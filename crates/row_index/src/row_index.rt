@@ -1,6 +1,7 @@
 //! The rows of many units, found by address.
 
 ghost use Rattle.std.specs.Prelude.{◌≡◌, ℕ, map, IfOk};
+ghost use Rattle.row_index.specs.Indexed.{IsIndexed};
 ghost use Rattle.row_index.specs.Rows.{found_in};
 
 use crate::rows::KeptRow;
@@ -10,19 +11,39 @@ use interval_index::IntervalIndex;
 use std::alloc::{AllocError, Global};
 use std::marker::Model;
 
-/// Finds the row that an address belongs to, among the rows of many units.
-///
-/// Contracts see it as the rows of each unit. It takes, beside the rows, at most 72 bytes for each
-/// run of rows; files as compilers make them have one run a sequence.
+/// The runs of the rows of many units, by address.
 #[derive(Drop)]
-pub struct RowIndex {
-    units: Vec<Vec<KeptRow>>,
+struct RunIndex {
     runs: Vec<Run>,
     index: IntervalIndex,
 }
 
+impl RunIndex {
+    /// The first of these units that has a row to which `address` belongs, with the first such row.
+    fn find(&self, units: &[Vec<KeptRow>], address: u64) -> Option<(usize, KeptRow)>
+        requires { IsIndexed (map (λ u. u.items) units.now) self.now.runs.items self.now.index }
+        ensures { result ≡ found_in (map (λ u. u.items) units.now) address }
+    {
+        match self.index.first(address) {
+            Some(number) => row_of(units, &self.runs[number], address),
+            None => None,
+        }
+    }
+}
+
+/// Finds the row that an address belongs to, among the rows of many units.
+///
+/// Contracts see it as the rows of each unit. It takes, beside the rows, at most 72 bytes for each
+/// run of rows; files as compilers make them have one run a sequence. Rows that are left unsorted
+/// take nothing more.
+#[derive(Drop)]
+pub struct RowIndex {
+    units: Vec<Vec<KeptRow>>,
+    runs: Option<RunIndex>,
+}
+
 impl Model for RowIndex {
-    ghost use Rattle.std.specs.Prelude.{◌≡◌, ℕ, List, map};
+    ghost use Rattle.std.specs.Prelude.{ℕ, List, map, IfSome};
     ghost use Rattle.row_index.specs.declared.rows.KeptRow.{KeptRow};
     ghost use Rattle.row_index.specs.Indexed.{IsIndexed};
 
@@ -30,7 +51,8 @@ impl Model for RowIndex {
 
     ghost view = { λ x. map (λ v. v.items) x.units.items };
 
-    ghost invariant = { λ x. IsIndexed (map (λ v. v.items) x.units.items) x.runs.items x.index };
+    ghost invariant = { λ x. IfSome x.runs
+        (λ r. IsIndexed (map (λ v. v.items) x.units.items) r.runs.items r.index) };
 }
 
 impl RowIndex {
@@ -44,7 +66,18 @@ impl RowIndex {
         let runs = runs_of(alloc, &units)?;
         let intervals = intervals_of(alloc, &units, &runs)?;
         let index = IntervalIndex::build(alloc, &intervals)?;
-        Ok(RowIndex { units, runs, index })
+        Ok(RowIndex {
+            units,
+            runs: Some(RunIndex { runs, index }),
+        })
+    }
+
+    /// These rows of each unit as they are: each address is found by a walk. For a few addresses that
+    /// takes less time than an index. No memory is taken.
+    pub fn unsorted(units: Vec<Vec<KeptRow>>) -> RowIndex
+        ensures { result ≡ map (λ v. v.items) units.items }
+    {
+        RowIndex { units, runs: None }
     }
 
     /// The first unit, counted from 0, that has a row to which `address` belongs, with the first such
@@ -52,9 +85,9 @@ impl RowIndex {
     pub fn find(&self, address: u64) -> Option<(usize, KeptRow)>
         ensures { result ≡ found_in self.now address }
     {
-        match self.index.first(address) {
-            Some(number) => row_of(&self.units, &self.runs[number], address),
-            None => None,
+        match &self.runs {
+            Some(runs) => runs.find(&self.units, address),
+            None => self.find_slowly(address),
         }
     }
 

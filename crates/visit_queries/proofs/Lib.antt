@@ -1,4 +1,5 @@
 pub mod Showing
+pub mod KeptNames
 pub mod Places
 pub mod NameSteps
 pub mod UnitSteps

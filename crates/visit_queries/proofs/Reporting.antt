@@ -1,5 +1,5 @@
 -- What is reported of what was seen, and what a walk is stopped by.
-use Rattle.std.specs.Prelude.{◌≡◌, refl, ℕ, List, [], ◌++◌, Result, Ok, Err}
+use Rattle.std.specs.Prelude.{◌≡◌, refl, ℕ, List, [], Ok, Err}
 use Rattle.std.proofs.Common.{sym, ap, subst, ◌∙◌, append-nil}
 use Rattle.visit_queries.specs.declared.visitor.Turn.{Turn}
 use Rattle.visit_queries.specs.declared.visitor.Turn.TheVariants.{More, Enough}

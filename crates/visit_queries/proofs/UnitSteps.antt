@@ -1,7 +1,7 @@
 -- How what is met in a unit, and then in the units behind it, is seen.
-use Rattle.std.specs.Prelude.{◌≡◌, refl, ℕ, suc, ◌+◌, ◌-◌, List, [], ◌∷◌, ◌++◌, Result, Ok, Err}
+use Rattle.std.specs.Prelude.{◌≡◌, refl, ℕ, suc, ◌+◌, ◌-◌, List, [], ◌++◌, Ok, Err}
 use Rattle.std.specs.List.{flat_map, range_with_len}
-use Rattle.std.proofs.Common.{sym, ap, subst, ◌∙◌, append_assoc, append-nil}
+use Rattle.std.proofs.Common.{sym, ap, subst, ◌∙◌, append_assoc}
 use Rattle.std.proofs.Math.Nat.{sub-zero}
 use Rattle.elf_sections.specs.Shapes.{SectionsView}
 use Rattle.unit_headers.specs.Headers.{unit_count}
@@ -13,7 +13,7 @@ use Rattle.entry_tree.specs.Units.{units_of}
 use Rattle.visit_queries.specs.declared.visitor.Turn.{Turn}
 use Rattle.visit_queries.specs.declared.visitor.Turn.TheVariants.{More, Enough}
 use Rattle.visit_queries.specs.declared.walk_stop.WalkStop.{WalkStop}
-use Rattle.visit_queries.specs.Shown.{ShownEntry, Met, RefusedUnit, met_in, met_in_unit, unit_entries}
+use Rattle.visit_queries.specs.Shown.{ShownEntry, Met, met_in, met_in_unit, unit_entries}
 use Rattle.visit_queries.specs.Seen.{Step, seen_by, Shows, Stops, behind_turn, stop_in}
 
 -- what is met in n units from one on

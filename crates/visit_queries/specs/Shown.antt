@@ -1,5 +1,5 @@
 -- What is shown of the entries of a file (DWARF 5 sections 2.1 to 2.3 and 2.15).
-use Rattle.std.specs.Prelude.{ℕ, ◌==◌, if◌then◌else◌, List, [], ◌∷◌, map, Option, Some, None, option_map, Result, Ok, Err}
+use Rattle.std.specs.Prelude.{ℕ, Bool, ◌==◌, if◌then◌else◌, List, [], ◌∷◌, map, Option, Some, None, option_map, Result, Ok, Err}
 use Rattle.std.specs.List.{find, flat_map, range_with_len}
 use Rattle.dw_fields.specs.declared.fault_code.Fault.{Fault}
 use Rattle.dw_fields.specs.Reading.{◌>>=◌}
@@ -44,6 +44,10 @@ name_in s header bases None = Ok None
 name_in s header bases (Some a) =
     if is_text a.raw then some_text (refused_at a.place (text_of a.raw header.wide s bases)) else Ok None
 
+-- the attributes that may name an entry
+unfoldable pub is_name : ℕ → Bool
+is_name name = name == NAME
+
 -- the name of an entry is that of its first attribute DW_AT_name
 unfoldable pub name_of : SectionsView → UnitHeader → Bases → List AttrView → Result (Option (List ℕ)) Fault
 name_of s header bases attrs = name_in s header bases (find (λ a. a.name == NAME) attrs)
@@ -62,6 +66,12 @@ module _ (s : SectionsView) (unit : ℕ) (header : UnitHeader) (bases : Bases) w
     first ← named_entry e
     others ← named_entries es
     Ok (first ∷ others)
+
+-- the entries of the unit of a header, with their names
+unfoldable pub header_entries : SectionsView → ℕ → UnitHeader → Bases → Result (List ShownEntry) Fault
+header_entries s unit header bases = do
+  entries ← entries_of s header
+  named_entries s unit header bases entries
 
 -- What is shown of a unit: its entries in their order. It is refused at its header, at its root, at one of its entries,
 -- or at the name of one of its entries, in this order.

@@ -53,7 +53,8 @@ pub fn walk<'f, D: Decls<'f>, L, V: Visitor>(
     requires index { index.now ≡ units_of (sections_view sections.now) }
     requires short { AreShort (sections_view sections.now) }
     ensures report { Walks result out.old.items out.new.items
-        (report_on (record { state = V.state visitor; step = V.step visitor; text = V.text visitor })
+        (report_on
+        (record { state = V.state visitor; step = V.step visitor; text = V.text visitor })
         (met_in (sections_view sections.entry.now))) }
     ensures follows { D.follows decls.old decls.new }
     ensures placed { GainsOnly (IsDeclaredKey (D.section decls.old)) (D.placed decls.old)

@@ -11,6 +11,7 @@
 mod file_walk;
 mod kept_lines;
 mod laws;
+mod name_attrs;
 mod named;
 mod names;
 mod show;

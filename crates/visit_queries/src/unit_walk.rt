@@ -4,11 +4,12 @@ ghost use Rattle.std.specs.Prelude.{◌≡◌, ◌<◌, ℕ, List, map, IfOk, On
 ghost use Rattle.elf_sections.specs.Shapes.{AreShort, sections_view};
 ghost use Rattle.unit_headers.specs.Headers.{unit_count};
 ghost use Rattle.unit_headers.specs.Refusals.{Answers};
-ghost use Rattle.entry_tree.specs.Keys.{GainsOnly, IsDeclaredKey};
+ghost use Rattle.entry_tree.specs.Keys.{GainsOnly, IsDeclaredKey, IsFoundKey};
 ghost use Rattle.entry_tree.specs.Units.{IsUnitOf, unit_header, units_of};
-ghost use Rattle.visit_queries.specs.Shown.{ShownEntry, met_in, met_in_unit, shown_entry, unit_entries};
+ghost use Rattle.visit_queries.specs.Shown.{ShownEntry, met_in, met_in_unit, header_entries, shown_entry, unit_entries};
 ghost use Rattle.visit_queries.specs.Seen.{Shows};
 
+use crate::name_attrs::NameAttrs;
 use crate::names::name_entries;
 use crate::show::show;
 use crate::visitor::{EntryView, Turn, Visitor};
@@ -17,7 +18,8 @@ use abbrev_decl::{Decls, Steps};
 use bumpalo::Bump;
 use dw_fields::Fault;
 use elf_sections::Sections;
-use entry_tree::{read_entries, renew, root_facts};
+use entry_tree::{read_kept_entries, renew, root_facts};
+use form_values::Bases;
 use std::alloc::Global;
 use unit_headers::{UnitHeader, UnitIndex, UnitRefusal};
 
@@ -37,8 +39,32 @@ fn read_header(
     index.header(unit)
 }
 
+/// The entries of the unit of a header with their names, in the arena.
+#[tactic(auto, using(crate::proofs::KeptNames::named_of_read, crate::proofs::KeptNames::named_refused), unfolding(crate::specs::Shown::header_entries))]
+fn read_named<'a, 'f: 'a, D: Decls<'f>, L>(
+    arena: &'a Bump,
+    sections: &Sections<'f>,
+    decls: &mut D,
+    unit: u32,
+    header: &UnitHeader,
+    bases: &Bases,
+    steps: &mut Steps<L>,
+) -> Result<&'a [EntryView<'a>], UnitRefusal>
+    requires section { D.section decls.old ≡ (sections_view sections.now).«abbrev» }
+    requires unit { IsUnitOf (sections_view sections.now) header.now }
+    requires short { AreShort (sections_view sections.now) }
+    ensures entries { Answers (λ views. map shown_entry views.now) result
+        (header_entries (sections_view sections.entry.now) unit header.now bases.now) }
+    ensures follows { D.follows decls.old decls.new }
+    ensures placed { GainsOnly (IsFoundKey (D.section decls.old) header.now.«abbrev»)
+        (D.placed decls.old) (D.placed decls.new) }
+{
+    let entries = read_kept_entries::<D, NameAttrs, L>(arena, decls, header, sections, steps)?;
+    name_entries(arena, unit, header, sections, bases, entries)
+}
+
 /// The entries of a unit with their names, in the arena.
-#[tactic(auto, unfolding(crate::specs::Shown::unit_entries))]
+#[tactic(auto, unfolding(crate::specs::Shown::unit_entries, crate::specs::Shown::header_entries))]
 fn read_unit<'a, 'f: 'a, D: Decls<'f>, L>(
     arena: &'a Bump,
     sections: &Sections<'f>,
@@ -60,8 +86,7 @@ fn read_unit<'a, 'f: 'a, D: Decls<'f>, L>(
 {
     let header = read_header(sections, index, unit)?;
     let facts = root_facts(decls, &header, sections, steps)?;
-    let entries = read_entries(arena, decls, &header, sections, steps)?;
-    name_entries(arena, unit, &header, sections, &facts.bases, entries)
+    read_named(arena, sections, decls, unit, &header, &facts.bases, steps)
 }
 
 /// Shows the entries of a unit.

@@ -1,4 +1,4 @@
-use Rattle.std.proofs.Common.{rules, ◌≡◌, ◌<◌, ◌∙◌, map, refl, sym, ap, subst, arith}
+use Rattle.std.proofs.Common.{rules, ◌<◌, ◌∙◌, map, refl, sym, ap, subst, arith}
 use Rattle.abbrev_decl.specs.Lookup.{LeavesSource}
 use Rattle.elf_sections.specs.Shapes.{SectionsView, sections_view}
 use Rattle.unit_headers.specs.Headers.{unit_count}

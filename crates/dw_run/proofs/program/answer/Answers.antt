@@ -20,5 +20,4 @@ returns-in-None g c =
 
 pub returns-in-Exercise : goal.returns-in-Exercise
 unfolding file_request_of
-returns-in-Exercise g c =
-    rw c.in-Exercise.is (rw c.of-in-Exercise.ensures.status (ends_misunderstood _ _ _ _ _ _ _ _ _ _ _ c.of-in-Exercise.ensures.published c.end_misunderstood-in-Exercise.ensures))
+returns-in-Exercise g c = rw c.in-Exercise.is (c.answer_exercise.ensures (g.S.Source.holds c.args.source.now) (g.S.Source.faults c.args.source.now))

@@ -1,4 +1,4 @@
-use Rattle.std.proofs.Common.{arith, sym, ◌∙◌, ◌+◌, ◌-◌, ap, drop, ℕ}
+use Rattle.std.proofs.Common.{arith, sym, ◌∙◌, ◌-◌, ap, drop, ℕ}
 use Rattle.row_index.specs.Rows.{row_at}
 use Rattle.row_index.proofs.Walks.{pair_covers, pair_passes, last_passes}
 use Rattle.row_index.proofs.walking.first_row.Goals as goal

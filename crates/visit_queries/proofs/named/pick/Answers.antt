@@ -1,4 +1,4 @@
-use Rattle.std.proofs.Common.{sym, ap, arith, ◌∙◌, List, map}
+use Rattle.std.proofs.Common.{ap, arith, ◌∙◌, map}
 use Rattle.std.specs.String.{string_bytes}
 use Rattle.visit_queries.specs.Named.{place_named}
 use Rattle.visit_queries.proofs.Places.{named_found, named_none, place_inside}

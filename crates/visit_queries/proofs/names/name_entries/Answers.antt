@@ -1,4 +1,4 @@
-use Rattle.std.proofs.Common.{map, sym, ap, ◌∙◌}
+use Rattle.std.proofs.Common.{map, sym, ◌∙◌}
 use Rattle.elf_sections.specs.Shapes.{sections_view}
 use Rattle.entry_tree.specs.Views.{entry_view}
 use Rattle.visit_queries.specs.Shown.{shown_entry}

@@ -1,4 +1,4 @@
-use Rattle.std.proofs.Common.{length, map, sym, ap, ◌∙◌}
+use Rattle.std.proofs.Common.{length, sym, ap, ◌∙◌}
 use Rattle.std.proofs.lemmas.List.{length-map}
 use Rattle.address_lookup.specs.Kept.{kept_place_of}
 use Rattle.address_lookup.proofs.address_index.AddressIndex.build.Goals as goal

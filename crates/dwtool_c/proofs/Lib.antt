@@ -1,0 +1,5 @@
+pub mod Lists
+pub mod UnitRows
+pub mod PlaceRows
+pub mod Fitted
+pub mod SoFar

@@ -1,0 +1,9 @@
+pub mod Answers
+pub mod Refusals
+pub mod Sections
+pub mod Units
+pub mod Lines
+pub mod Texts
+pub mod Places
+pub mod Fronts
+pub mod FileTexts

@@ -1,7 +1,7 @@
 //! Dumps with several numbers of workers.
 
 use crate::files::{FIRST_TEXT, THREE_TEXTS, file_of, texts_of};
-use crate::gates::{CountingGate, MeetingGate};
+use crate::gates::{MeetingGate, RefusalGate};
 use crate::seats::{Ended, check_dump, check_file};
 use dump_workers::split_seats;
 use handle_cache::Handle;
@@ -72,13 +72,13 @@ fn units_stand_in_two_windows(rt: HostRuntime) -> Result<(), Fail> {
 }
 
 #[test]
-fn units_behind_a_refused_one_are_not_read(rt: HostRuntime) -> Result<(), Fail> {
+fn units_behind_a_refused_one_are_skipped(rt: HostRuntime) -> Result<(), Fail> {
     let alloc = rt.alloc();
     let file = file_of(alloc, 300, &[3, 200])?;
     let text = texts_of(alloc, 3)?;
-    let (handle, first) = Handle::open(alloc, file.as_slice(), 1)?;
-    let mut seats = split_seats(alloc, &handle, first, 1)?;
-    let gate = CountingGate::new();
+    let (handle, first) = Handle::open(alloc, file.as_slice(), 2)?;
+    let mut seats = split_seats(alloc, &handle, first, 2)?;
+    let gate = RefusalGate::new(3);
     check_dump(
         &rt,
         alloc,
@@ -88,7 +88,8 @@ fn units_behind_a_refused_one_are_not_read(rt: HostRuntime) -> Result<(), Fail> 
         text.as_slice(),
         Some(3),
     );
-    assert_eq!(rt; gate.entered(), 4);
+    // of the 256 units of the window the workers read four, and those that they drew before they were told
+    assert!(rt; gate.entered() < 128);
     Ok(())
 }
 

@@ -1,4 +1,5 @@
-//! A gate that holds the first worker until another has come, and one that counts.
+//! A gate that holds the first worker until another has come, and one that counts the
+//! units that are read.
 
 use dw_outside::Gate;
 use std::sync::atomic::{AtomicU32, Ordering};
@@ -46,30 +47,58 @@ impl Gate for MeetingGate {
     }
 }
 
-/// How often a worker was about to read a unit.
+/// How often a worker that reads a unit behind the refused one lets others run first.
+const YIELDS: u32 = 1000;
+
+/// A gate that counts the units that are read. A worker waits before a unit behind the refused one until that one was
+/// read.
 #[derive(Drop)]
-pub(crate) struct CountingGate {
+pub(crate) struct RefusalGate {
+    refused: u32,
     entered: AtomicU32,
+    left: AtomicU32,
 }
 
-impl CountingGate {
-    /// A gate at 0.
-    pub(crate) fn new() -> CountingGate {
-        CountingGate {
+impl RefusalGate {
+    /// A gate for a file of which this unit is the first refused one.
+    pub(crate) fn new(refused: u32) -> RefusalGate {
+        RefusalGate {
+            refused,
             entered: AtomicU32::new(0),
+            left: AtomicU32::new(0),
         }
     }
 
-    /// How often.
+    /// How many units were read.
     pub(crate) fn entered(&self) -> u32 {
         self.entered.load(Ordering::SeqCst)
     }
+
+    /// Waits until the refused unit was read.
+    fn wait(&self) {
+        for _ in 0..MOST_LOOKS {
+            if self.left.load(Ordering::SeqCst) > 0 {
+                return;
+            }
+            yield_now();
+        }
+    }
 }
 
-impl Gate for CountingGate {
-    fn enter(&self, _worker: u32, _unit: u32) {
+impl Gate for RefusalGate {
+    fn enter(&self, _worker: u32, unit: u32) {
         self.entered.fetch_add(1, Ordering::SeqCst);
+        if unit > self.refused {
+            self.wait();
+            for _ in 0..YIELDS {
+                yield_now();
+            }
+        }
     }
 
-    fn leave(&self, _worker: u32, _unit: u32) {}
+    fn leave(&self, _worker: u32, unit: u32) {
+        if unit == self.refused {
+            self.left.fetch_add(1, Ordering::SeqCst);
+        }
+    }
 }

@@ -29,7 +29,8 @@ use visit_queries::{IsNamed, NamedVisitor, pick};
 /// A dump has as many workers as its words say, in threads of their own where these can be made. The gate
 /// is entered before a worker reads a unit and left behind it. The bytes are those of reading unit after
 /// unit anew, whatever the number of workers. A whole dump tells how many of the file's keys are in
-/// the table of the file's handle.
+/// the table of the file's handle. `exercise` reads no file: it makes one in memory, dumps that twice by as
+/// many workers, and writes what came of it.
 pub fn run<R: Threads + Sync, S: Source, O: Sink, E: Sink, G: Gate + Sync>(
     rt: &R,
     alloc: Global,

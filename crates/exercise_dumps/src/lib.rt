@@ -1,4 +1,4 @@
-//! The generated file, dumped twice by some workers. It is what `exercise` shows, and nothing calls it yet.
+//! The generated file, dumped twice by some workers: what `exercise` shows.
 //!
 //! [`dump_twice`] opens the generated file with twice as many passes as workers, dumps it, joins all passes
 //! into the first, splits them off again and dumps it once more. Its clauses say what comes of that for every

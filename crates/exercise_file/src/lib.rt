@@ -1,5 +1,5 @@
 //! The file that `exercise` dumps: so many units of seven entries each, and a table of declarations for
-//! each ten of them (DWARF 5 sections 7.5.1 to 7.5.3). Nothing calls it yet.
+//! each ten of them (DWARF 5 sections 7.5.1 to 7.5.3).
 //!
 //! [`generate`] makes it, byte by byte as `generated_file` of `specs/Generated.antt` spells it. The laws say
 //! what readers find in it, for every number of units up to [`MOST_UNITS`]: [`sections_are_found`] its sections,

@@ -174,7 +174,7 @@ impl<'f> FileUnits<'f> {
     }
 
     /// Appends the range lists and location lists of a unit, whose entries lie in the arena.
-    #[tactic(auto, unfolding(dw_run::specs::Parts::unit_part, dw_run::specs::Parts::part_of, dw_run::specs::Parts::unit_of))]
+    #[tactic(auto, unfolding(dw_run::specs::Parts::unit_part, dw_run::specs::Parts::part_of, dw_run::specs::Parts::facts_and_entries))]
     fn append_lists(
         &mut self,
         alloc: Global,

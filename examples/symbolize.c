@@ -11,7 +11,7 @@ static void print_place(const dwtool_place *place, const uint8_t *names) {
     puts("??:0");
   } else if (place->found == DWTOOL_NO_NAME) {
     printf("??:%" PRIu64 "\n", place->line);
-  } else if (place->directory_size == 0 || name[0] == '/') {
+  } else if (place->directory_size == 0 || (place->name_size != 0 && name[0] == '/')) {
     printf("%.*s:%" PRIu64 "\n", (int)place->name_size, name, place->line);
   } else {
     printf("%.*s/%.*s:%" PRIu64 "\n", (int)place->directory_size, directory, (int)place->name_size, name, place->line);

@@ -54,6 +54,9 @@ def line_of(place, names):
 
 
 def main():
+    if len(sys.argv) < 4:
+        print("symbolize.py LIBRARY FILE ADDRESS ..", file=sys.stderr)
+        sys.exit(2)
     made = library(sys.argv[1])
     with open(sys.argv[2], "rb") as opened:
         file = opened.read()

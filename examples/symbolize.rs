@@ -94,6 +94,10 @@ fn number(word: &str) -> u64 {
 
 fn main() {
     let words: Vec<String> = std::env::args().skip(1).collect();
+    if words.len() < 2 {
+        eprintln!("symbolize FILE ADDRESS ..");
+        std::process::exit(2);
+    }
     let file = std::fs::read(&words[0]).expect("a file");
     let addresses: Vec<u64> = words[1..].iter().map(|word| number(word)).collect();
     match places(&file, &addresses) {

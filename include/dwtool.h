@@ -8,7 +8,8 @@
  * This header is written by hand, and no proof covers it. What a caller must guarantee, and nothing checks:
  *
  * - Each pointer is not null, also where its length is 0, and is aligned for what it points to. Each length is true.
- * - What a call writes (`text`, `rows`, `size`, `refusal`, ..) is writable, and apart from the file and from each other.
+ * - What a call writes (`text`, `rows`, `size`, `refusal`, ..) is writable, and apart from the file, from the addresses
+ *   and from each other.
  * - The bytes of the file and the addresses do not change while a call runs. A mapped file that another process
  *   truncates or writes breaks this: read the file into memory, or map one that nobody changes.
  * - `malloc`, `realloc` and `free` are of one allocator, and align to 16 bytes.

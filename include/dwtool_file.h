@@ -27,7 +27,8 @@ typedef struct dwtool_file {
   size_t size;
 } dwtool_file;
 
-/* Opens a file and maps it. NULL where it can't be opened or mapped, or memory is wanting; `errno` says why. */
+/* Opens a regular file and maps it. NULL where it can't be opened or mapped, or memory is wanting; `errno` says why:
+ * EISDIR of a directory, EINVAL of a pipe (for whose writer the call waits), a terminal or a device. */
 static inline dwtool_file *dwtool_open(const char *path) {
   static const uint8_t none[1] = {0};
   struct stat about;
@@ -36,13 +37,15 @@ static inline dwtool_file *dwtool_open(const char *path) {
   dwtool_file *file = (dwtool_file *)malloc(sizeof *file);
   int at = file == NULL ? -1 : open(path, O_RDONLY | O_CLOEXEC);
   if (at < 0) {
+    saved = errno;
     free(file);
+    errno = saved;
     return NULL;
   }
   if (fstat(at, &about) != 0) {
     saved = errno;
-  } else if (S_ISDIR(about.st_mode)) {
-    saved = EISDIR;
+  } else if (!S_ISREG(about.st_mode)) {
+    saved = S_ISDIR(about.st_mode) ? EISDIR : EINVAL;
   } else if (about.st_size == 0) {
     file->bytes = none;
     file->size = 0;
@@ -82,11 +85,12 @@ enum { DWTOOL_STOPPED = 4 };
  * DWTOOL_NONE_SUCH where there is no such command; DWTOOL_STOPPED; or DWTOOL_NO_MEMORY. */
 static inline int dwtool_each_unit(const dwtool_file *file, uint32_t command, dwtool_sink *sink, void *context,
                                    dwtool_refusal *refusal) {
+  static const dwtool_refusal nothing = {0, 0, 0, 0, 0};
   size_t room = 1 << 16, size = 0;
   uint8_t *text = (uint8_t *)malloc(room);
   int status = text == NULL ? DWTOOL_NO_MEMORY : DWTOOL_DONE;
   uint32_t unit = 0;
-  refusal->what = DWTOOL_NOTHING;
+  *refusal = nothing;
   while (status == DWTOOL_DONE) {
     status = dwtool_unit_text(command, file->bytes, file->size, unit, text, room, &size, refusal);
     if (status == DWTOOL_DONE && size > room) {

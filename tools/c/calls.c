@@ -1,6 +1,7 @@
-/* calls FILE: each call for C over this file with buffers of every length (or some, where the whole is long), from four
- * threads at once, and with each request for memory refused in turn. Prints what was wrong; the status is 1 where
- * anything was. Linked with --wrap for malloc, realloc and free. */
+/* calls FILE [memory [met]]: each call for C over this file with buffers of every length (or some, where the whole is
+ * long), from four threads at once. With `memory` also with each request for memory refused in turn; with `met` it is
+ * wrong where no request was met. Prints what was wrong; the status is 1 where anything was. Linked with --wrap for
+ * malloc, realloc and free. */
 #include <dwtool_file.h>
 #include <pthread.h>
 #include <stdalign.h>
@@ -38,11 +39,11 @@ void __wrap_free(void *old) {
 
 /* -- one call for all: what is asked for, and what was answered */
 
-enum { TEXT, UNIT_TEXT, SECTIONS, NAME, UNITS, LINES, PLACES, KINDS };
+enum { TEXT, UNIT_TEXT, SECTIONS, NAME, UNITS, LINES, PLACES, PLACE_NAMES, KINDS };
 static const char *const names[] = {"dwtool_text", "dwtool_unit_text", "dwtool_sections", "dwtool_section_name",
-                                    "dwtool_units", "dwtool_lines", "dwtool_places"};
+                                    "dwtool_units", "dwtool_lines", "dwtool_places", "dwtool_places (names)"};
 static const size_t widths[] = {1, 1, sizeof(dwtool_section), 1, sizeof(dwtool_unit), sizeof(dwtool_line),
-                                sizeof(dwtool_place)};
+                                sizeof(dwtool_place), 1};
 
 typedef struct {
   int kind;
@@ -74,6 +75,13 @@ static answer ask(const dwtool_file *file, question q, void *into, size_t room) 
       break;
     case UNITS: a.status = dwtool_units(bytes, size, (dwtool_unit *)into, room, &a.size, &a.refusal); break;
     case LINES: a.status = dwtool_lines(bytes, size, q.number, (dwtool_line *)into, room, &a.size, &a.refusal); break;
+    case PLACE_NAMES: {
+      dwtool_place rows[sizeof addresses / sizeof *addresses];
+      size_t count = 0;
+      a.status = dwtool_places(bytes, size, addresses, sizeof addresses / sizeof *addresses, rows,
+                               sizeof rows / sizeof *rows, &count, (uint8_t *)into, room, &a.size, &a.refusal);
+      break;
+    }
     default:
       a.status = dwtool_places(bytes, size, addresses, sizeof addresses / sizeof *addresses, (dwtool_place *)into, room,
                                &a.size, few, sizeof few, &names_size, &a.refusal);
@@ -91,6 +99,8 @@ static int same_answer(const answer *a, const answer *b) {
 }
 
 static _Thread_local int wrong;
+/* how many requests were met and refused, of all questions */
+static long met_all;
 
 static void say(question q, const char *what, size_t number) {
   if (wrong++ < 20) {
@@ -155,7 +165,8 @@ static void every_request(const dwtool_file *file, question q) {
   uint8_t *wanted = whole(file, q, &all);
   size_t width = widths[q.kind], room = all.size + 1;
   uint8_t *into = (uint8_t *)malloc(room * width);
-  for (long call = 1; call < 20000; call++) {
+  long call = 1;
+  for (; call < 20000; call++) {
     memset(into, 0xa5, room * width);
     long before = held;
     requests = 0;
@@ -163,6 +174,7 @@ static void every_request(const dwtool_file *file, question q) {
     answer a = ask(file, q, into, room);
     refuse_at = 0;
     int met = requests >= call;
+    met_all += met;
     if (held != before) say(q, "memory is kept", (size_t)call);
     if (a.status == DWTOOL_NO_MEMORY && met) {
       if (a.size != 0 || a.refusal.what != DWTOOL_NOTHING) say(q, "a length without memory", (size_t)call);
@@ -172,6 +184,7 @@ static void every_request(const dwtool_file *file, question q) {
     }
     if (!met) break;
   }
+  if (call == 20000) say(q, "more requests than are tried", 0);
   free(into);
   free(wanted);
 }
@@ -210,6 +223,11 @@ int main(int argc, char **argv) {
     failed |= answer != NULL;
   }
   if (argc > 2) each_question(file, every_request);
+  /* of a file that is read each call but that of no such number wants memory */
+  if (argc > 3 && met_all == 0) {
+    puts("no request for memory was met");
+    failed = 1;
+  }
   dwtool_close(file);
   return failed || wrong != 0;
 }

@@ -3,6 +3,8 @@
 ghost use Rattle.std.specs.Prelude.{◌≡◌};
 
 use dw_fields::Fault;
+use std::error::Error;
+use std::fmt;
 use std::marker::Model;
 
 /// What a dump of all units tells. Only [`crate::dump`] makes one.
@@ -127,3 +129,19 @@ pub enum DumpFault {
     /// Memory ran out.
     OutOfMemory,
 }
+
+impl fmt::Display for DumpFault {
+    ghost use Rattle.std.specs.Prelude.{Some};
+    ghost use Rattle.dump_workers.specs.Ends.{dump_fault_message};
+
+    ghost output = { λ fault. Some (dump_fault_message fault) };
+
+    fn fmt<W: fmt::Write>(&self, f: &mut fmt::Formatter<W>) -> fmt::Result {
+        f.write_str(match self {
+            DumpFault::WriteFault => "the text could not be written",
+            DumpFault::OutOfMemory => "out of memory",
+        })
+    }
+}
+
+impl Error for DumpFault {}

@@ -102,7 +102,7 @@ fn dump_windows<'f, R: Threads + Sync, G: Gate + Sync, O: Sink, L: Send>(
 /// one `write_all`. The gate is entered before each unit is read and left behind it.
 ///
 /// All seats have passes of this handle's table, at rest; they are so afterwards, whatever the answer is.
-/// Where a pass has all that the file's units use, its counter stays as it is.
+/// Where no unit is refused and a pass has all that the units use, its counter is behind an answer what it was.
 ///
 /// # Errors
 /// `WriteFault` only where the sink counted a fault, and `OutOfMemory` for want of memory. The sink has then

@@ -5,24 +5,26 @@ use Rattle.dw_fields.specs.declared.fault_code.Code.TheVariants.{LineForm}
 use Rattle.dw_fields.specs.Codes.{fault}
 use Rattle.dw_fields.specs.Span.{at}
 use Rattle.dw_fields.specs.Reading.{Reader, ◌>>=◌, ◌>>◌, refuse, uleb_at}
+use Rattle.dw_numbers.specs.declared.form.TheConstants as forms
 use Rattle.line_programs.specs.declared.formats.Format.{Format}
 use Rattle.line_programs.specs.Front.{in_header}
 
 -- string, strp, line_strp
 unfoldable pub is_path_form : ℕ → Bool
-is_path_form form = (form == 0x08) || (form == 0x0e) || (form == 0x1f)
+is_path_form form = (form == forms.STRING) || (form == forms.STRP) || (form == forms.LINE_STRP)
 
 -- data1, data2, data4, data8, udata
 unfoldable pub is_index_form : ℕ → Bool
 is_index_form form =
-    (form == 0x0b) || (form == 0x05) || (form == 0x06) || (form == 0x07) || (form == 0x0f)
+    (form == forms.DATA1) || (form == forms.DATA2) || (form == forms.DATA4) || (form == forms.DATA8)
+    || (form == forms.UDATA)
 
 -- Every form of the standard but flag_present, which takes no byte, indirect and implicit_const. There
 -- is no form 2.
 unfoldable pub is_profile_form : ℕ → Bool
 is_profile_form form =
-    nat_lt 0 form && nat_lt form 0x2d && not (form == 0x02) && not (form == 0x16)
-    && not (form == 0x19) && not (form == 0x21)
+    nat_lt 0 form && nat_lt form 0x2d && not (form == 0x02) && not (form == forms.INDIRECT)
+    && not (form == forms.FLAG_PRESENT) && not (form == forms.IMPLICIT_CONST)
 
 -- Which forms the content types 1 (path) and 2 (directory index) may have, and any other.
 unfoldable pub is_accepted : ℕ → ℕ → Bool

@@ -10,7 +10,7 @@ ghost use Rattle.line_text.specs.LineTable.{head_line, lines_text, names_text, t
 use crate::line_tables::{LastTable, LineTables};
 use crate::names::{first_number, push_directories, push_files};
 use crate::row_text::push_rows;
-use dw_text::{push_decimal_after, push_hex_after, push_text};
+use dw_text::{keep_whole, push_decimal_after, push_hex_after, push_text};
 use elf_sections::Sections;
 use form_values::UnitFacts;
 use line_machine::Row;
@@ -74,19 +74,14 @@ pub(crate) fn append_table(
         (Ok (table_text header.now.number offset table.now.program table.now.rows.items)) }
 {
     let before = out.len();
-    match push_table(
+    let done = push_table(
         out,
         u64::from(header.number),
         offset,
         &table.program,
         table.rows.as_slice(),
-    ) {
-        Ok(()) => Ok(()),
-        Err(_) => {
-            out.truncate(before);
-            Err(UnitRefusal::OutOfMemory)
-        }
-    }
+    );
+    Ok(keep_whole(out, before, done)?)
 }
 
 /// Appends the head, the directories, the files and the rows of a table.

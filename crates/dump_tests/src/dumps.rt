@@ -2,7 +2,7 @@
 
 use crate::files::{FIRST_TEXT, THREE_TEXTS, file_of, texts_of};
 use crate::gates::{MeetingGate, RefusalGate};
-use crate::seats::{Ended, check_dump, check_file};
+use crate::seats::{Ended, check_dump, check_file, check_stopped};
 use dump_workers::split_seats;
 use handle_cache::Handle;
 use std::test::Fail;
@@ -17,6 +17,14 @@ fn any_number_of_workers_writes_the_same(rt: HostRuntime) -> Result<(), Fail> {
     check_file(&rt, alloc, file.as_slice(), 2, THREE_TEXTS, ended)?;
     check_file(&rt, alloc, file.as_slice(), 7, THREE_TEXTS, ended)?;
     check_file(&rt, alloc, file.as_slice(), 64, THREE_TEXTS, ended)
+}
+
+#[test]
+fn a_dump_into_a_failing_sink_counts_nothing_that_is_known(rt: HostRuntime) -> Result<(), Fail> {
+    let alloc = rt.alloc();
+    let file = file_of(alloc, 3, &[])?;
+    check_stopped(&rt, alloc, file.as_slice(), 1, THREE_TEXTS)?;
+    check_stopped(&rt, alloc, file.as_slice(), 2, THREE_TEXTS)
 }
 
 #[test]

@@ -5,7 +5,7 @@ ghost use Rattle.dump_workers.specs.Passes.{KeepsPasses};
 ghost use Rattle.dump_workers.specs.Seats.{EachBelongs};
 ghost use Rattle.dump_workers.specs.declared.serving.TheConstants.{MOST_WORKERS};
 
-use dump_workers::{DumpEnd, DumpSeat, Whole, dump, join_seats, published, split_seats};
+use dump_workers::{DumpEnd, DumpFault, DumpSeat, Whole, dump, join_seats, published, split_seats};
 use dw_outside::{Gate, MemorySink, OpenGate};
 use handle_cache::Handle;
 use std::alloc::Global;
@@ -62,6 +62,32 @@ pub(crate) fn check_dump<'f, R: Threads + Abort + Sync, G: Gate + Sync>(
         }
         Err(_) => panic!(rt; "the dump was stopped"),
     }
+}
+
+/// Dumps a file of units that aren't refused twice with so many workers, the second time into a sink that fails at its
+/// second call. Nothing is counted then.
+pub(crate) fn check_stopped<R: Threads + Abort + Sync>(
+    rt: &R,
+    alloc: Global,
+    file: &[u8],
+    workers: u32,
+    text: &[u8],
+) -> Result<(), Fail>
+    requires some { 1 ≤ workers }
+    requires few { workers ≤ MOST_WORKERS }
+{
+    let (handle, first) = Handle::open(alloc, file, workers)?;
+    let mut seats = split_seats(alloc, &handle, first, workers)?;
+    check_dump(rt, alloc, &handle, &mut seats, &OpenGate, text, None);
+    let steps = count_steps(seats.as_slice());
+    let mut failing = Vec::new(alloc);
+    failing.push(2)?;
+    let mut out = MemorySink::new(alloc, failing);
+    let end = dump(rt, alloc, &handle, &mut seats, &OpenGate, &mut out);
+    assert!(rt; matches!(end, Err(DumpFault::WriteFault)));
+    assert!(rt; text.starts_with(out.bytes()));
+    assert_eq!(rt; count_steps(seats.as_slice()), steps);
+    Ok(())
 }
 
 /// Dumps a file twice with so many workers. Compares both texts, how the dumps end, and what the table has then. The

@@ -1,5 +1,4 @@
 pub mod AloneLaws
-pub mod EntryCounts
 pub mod UnitKeys
 pub mod RefusalLaws
 pub mod SeatLaws

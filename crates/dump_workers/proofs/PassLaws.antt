@@ -29,7 +29,7 @@ use Rattle.dump_workers.specs.declared.ends.DumpFault.{DumpFault}
 use Rattle.dump_workers.specs.Dumps.{Ends, WholeRefusesNone, dump_from, dump_of, unit_dumped}
 use Rattle.dump_workers.specs.FileKeys.{IsFileKey, RefusesNone}
 use Rattle.dump_workers.specs.Passes.{AreLed, EachAtZero, EachHasFront, EachOwnsOnly, HasAllPasses, HaveAllPasses, KeepsPasses, NoneIsFirst, pass_count}
-use Rattle.dump_workers.specs.Seats.{DumpSeatView, EachBelongs, EachFollows, EachReads, SeatsNoteFile, SomeSeatNotes}
+use Rattle.dump_workers.specs.Seats.{DumpSeatView, EachBelongs, EachFollows, EachGains, SeatsNoteFile, SomeSeatNotes}
 use Rattle.dump_workers.specs.TableKeys.{HoldsFile, OwnsOnly}
 use Rattle.dump_workers.specs.UnitDumps.{unit_dump}
 use Rattle.dump_workers.proofs.KeyLists.{contains_in, in_contains, in_either}
@@ -72,11 +72,11 @@ owns_later s p q gains owns k there = ⊎_elim
     (λ (new : Contains gains.more k). All-contains (IsFileKey s) gains.more k gains.each new)
     (Contains-append_cases (own_keys p) gains.more k (subst (λ (ks : List ℕ). Contains ks k) gains.is there))
 
-pub each_owns : (s : SectionsView) (xs ys : List DumpSeatView) → EachReads s xs ys → RefusesNone s → EachOwnsOnly s xs → EachOwnsOnly s ys
-each_owns s [] [] reads none owns = tt
-each_owns s [] (y ∷ ys) reads none owns = absurd reads
-each_owns s (x ∷ xs) [] reads none owns = absurd reads
-each_owns s (x ∷ xs) (y ∷ ys) reads none owns = (owns_later s x.pass y.pass (reads.0.gains none) owns.0, each_owns s xs ys reads.1 none owns.1)
+pub each_owns : (s : SectionsView) (xs ys : List DumpSeatView) → EachGains s xs ys → RefusesNone s → EachOwnsOnly s xs → EachOwnsOnly s ys
+each_owns s [] [] gains none owns = tt
+each_owns s [] (y ∷ ys) gains none owns = absurd gains
+each_owns s (x ∷ xs) [] gains none owns = absurd gains
+each_owns s (x ∷ xs) (y ∷ ys) gains none owns = (owns_later s x.pass y.pass (gains.0.gains none) owns.0, each_owns s xs ys gains.1 none owns.1)
 
 -- a dump that refuses no unit
 none_in : (s : SectionsView) (start n : ℕ) → None ≡ (dump_from s start n).refused → (unit : ℕ) → start ≤ unit → unit < start + n → IsOk (unit_dump s unit)

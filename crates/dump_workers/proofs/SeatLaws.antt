@@ -12,10 +12,10 @@ use Rattle.map_cells.specs.FollowLaws.{follows_same, follows_then, of_follows}
 use Rattle.handle_cache.specs.Handles.{HandleView, Belongs}
 use Rattle.handle_cache.proofs.Calls.{still_noted}
 use Rattle.unit_headers.specs.Headers.{unit_count}
-use Rattle.dump_workers.specs.FileKeys.{NotesUnit, ReadsUnits}
-use Rattle.dump_workers.specs.Seats.{DumpSeatView, EachBelongs, EachFollows, EachReads, SameSeat}
+use Rattle.dump_workers.specs.FileKeys.{CountsUnits, GainsUnits, NotesUnit}
+use Rattle.dump_workers.specs.Seats.{DumpSeatView, EachBelongs, EachCounts, EachFollows, EachGains, SameSeat}
 use Rattle.dump_workers.specs.Windows.{NoteBelow, SomeSeatNotesUnit}
-use Rattle.dump_workers.proofs.UnitKeys.{reads_same, reads_then}
+use Rattle.dump_workers.proofs.UnitKeys.{counts_same, counts_then, gains_same, gains_then}
 
 -- # By their places
 
@@ -31,13 +31,20 @@ follows_places [] (y ∷ ys) same each = absurd (omega (arith, same))
 follows_places (x ∷ xs) [] same each = absurd (omega (arith, same))
 follows_places (x ∷ xs) (y ∷ ys) same each = (each 0 x (omega arith), follows_places xs ys (omega (arith, same)) (λ i d inside. each (suc i) d (omega (arith, inside))))
 
-pub reads_places : (s : SectionsView) (xs ys : List DumpSeatView) → length ys ≡ length xs
-    → ((i : ℕ) (d : DumpSeatView) → i < length xs → ReadsUnits s (slice_index_or xs i d).pass (slice_index_or ys i d).pass (slice_index_or xs i d).steps (slice_index_or ys i d).steps)
-    → EachReads s xs ys
-reads_places s [] [] same each = tt
-reads_places s [] (y ∷ ys) same each = absurd (omega (arith, same))
-reads_places s (x ∷ xs) [] same each = absurd (omega (arith, same))
-reads_places s (x ∷ xs) (y ∷ ys) same each = (each 0 x (omega arith), reads_places s xs ys (omega (arith, same)) (λ i d inside. each (suc i) d (omega (arith, inside))))
+pub gains_places : (s : SectionsView) (xs ys : List DumpSeatView) → length ys ≡ length xs
+    → ((i : ℕ) (d : DumpSeatView) → i < length xs → GainsUnits s (slice_index_or xs i d).pass (slice_index_or ys i d).pass) → EachGains s xs ys
+gains_places s [] [] same each = tt
+gains_places s [] (y ∷ ys) same each = absurd (omega (arith, same))
+gains_places s (x ∷ xs) [] same each = absurd (omega (arith, same))
+gains_places s (x ∷ xs) (y ∷ ys) same each = (each 0 x (omega arith), gains_places s xs ys (omega (arith, same)) (λ i d inside. each (suc i) d (omega (arith, inside))))
+
+pub counts_places : (s : SectionsView) (xs ys : List DumpSeatView) → length ys ≡ length xs
+    → ((i : ℕ) (d : DumpSeatView) → i < length xs → CountsUnits s (slice_index_or xs i d).pass (slice_index_or xs i d).steps (slice_index_or ys i d).steps)
+    → EachCounts s xs ys
+counts_places s [] [] same each = tt
+counts_places s [] (y ∷ ys) same each = absurd (omega (arith, same))
+counts_places s (x ∷ xs) [] same each = absurd (omega (arith, same))
+counts_places s (x ∷ xs) (y ∷ ys) same each = (each 0 x (omega arith), counts_places s xs ys (omega (arith, same)) (λ i d inside. each (suc i) d (omega (arith, inside))))
 
 pub some_place : (s : SectionsView) (unit : ℕ) (seats : List DumpSeatView) (i : ℕ) (d : DumpSeatView) → i < length seats
     → NotesUnit s unit (slice_index_or seats i d).pass → SomeSeatNotesUnit s unit seats
@@ -74,18 +81,30 @@ each_belongs h (x ∷ xs) (y ∷ ys) all p = (
   each_belongs h xs ys all.1 p.1,
 )
 
-pub each_reads_same : (s : SectionsView) (xs : List DumpSeatView) → EachReads s xs xs
-each_reads_same s [] = tt
-each_reads_same s (x ∷ xs) = (reads_same s x.pass x.steps, each_reads_same s xs)
+pub each_gains_same : (s : SectionsView) (xs : List DumpSeatView) → EachGains s xs xs
+each_gains_same s [] = tt
+each_gains_same s (x ∷ xs) = (gains_same s x.pass, each_gains_same s xs)
 
-pub each_reads_then : (s : SectionsView) (xs ys zs : List DumpSeatView) → EachFollows xs ys → EachReads s xs ys → EachReads s ys zs → EachReads s xs zs
-each_reads_then s [] [] [] f p q = tt
-each_reads_then s [] [] (z ∷ zs) f p q = absurd q
-each_reads_then s [] (y ∷ ys) zs f p q = absurd p
-each_reads_then s (x ∷ xs) [] zs f p q = absurd p
-each_reads_then s (x ∷ xs) (y ∷ ys) [] f p q = absurd q
-each_reads_then s (x ∷ xs) (y ∷ ys) (z ∷ zs) f p q =
-    (reads_then s x.pass y.pass z.pass x.steps y.steps z.steps f.0 p.0 q.0, each_reads_then s xs ys zs f.1 p.1 q.1)
+pub each_gains_then : (s : SectionsView) (xs ys zs : List DumpSeatView) → EachGains s xs ys → EachGains s ys zs → EachGains s xs zs
+each_gains_then s [] [] [] p q = tt
+each_gains_then s [] [] (z ∷ zs) p q = absurd q
+each_gains_then s [] (y ∷ ys) zs p q = absurd p
+each_gains_then s (x ∷ xs) [] zs p q = absurd p
+each_gains_then s (x ∷ xs) (y ∷ ys) [] p q = absurd q
+each_gains_then s (x ∷ xs) (y ∷ ys) (z ∷ zs) p q = (gains_then s x.pass y.pass z.pass p.0 q.0, each_gains_then s xs ys zs p.1 q.1)
+
+pub each_counts_same : (s : SectionsView) (xs : List DumpSeatView) → EachCounts s xs xs
+each_counts_same s [] = tt
+each_counts_same s (x ∷ xs) = (counts_same s x.pass x.steps, each_counts_same s xs)
+
+pub each_counts_then : (s : SectionsView) (xs ys zs : List DumpSeatView) → EachFollows xs ys → EachCounts s xs ys → EachCounts s ys zs → EachCounts s xs zs
+each_counts_then s [] [] [] f p q = tt
+each_counts_then s [] [] (z ∷ zs) f p q = absurd q
+each_counts_then s [] (y ∷ ys) zs f p q = absurd p
+each_counts_then s (x ∷ xs) [] zs f p q = absurd p
+each_counts_then s (x ∷ xs) (y ∷ ys) [] f p q = absurd q
+each_counts_then s (x ∷ xs) (y ∷ ys) (z ∷ zs) f p q =
+    (counts_then s x.pass y.pass x.steps y.steps z.steps f.0 p.0 q.0, each_counts_then s xs ys zs f.1 p.1 q.1)
 
 -- what was noted stays noted
 pub some_later : (s : SectionsView) (unit : ℕ) (xs ys : List DumpSeatView) → EachFollows xs ys → SomeSeatNotesUnit s unit xs → SomeSeatNotesUnit s unit ys

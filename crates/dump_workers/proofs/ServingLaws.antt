@@ -6,7 +6,7 @@ use Rattle.handle_cache.specs.Handles.{HandleView, Belongs, sections_in}
 use Rattle.unit_draws.specs.Seats.{DrawsView, SeatView}
 use Rattle.dump_workers.specs.declared.reading.Reading.{Reading}
 use Rattle.dump_workers.specs.declared.seat.Work.TheVariants.{Drawing, Drawn}
-use Rattle.dump_workers.specs.FileKeys.{ReadsUnits}
+use Rattle.dump_workers.specs.FileKeys.{CountsUnits, GainsUnits}
 use Rattle.dump_workers.specs.Seats.{DumpSeatView}
 use Rattle.dump_workers.specs.Windows.{LeavesServed, NotesReadings, ServesWindow}
 
@@ -14,11 +14,12 @@ use Rattle.dump_workers.specs.Windows.{LeavesServed, NotesReadings, ServesWindow
 pub leaves_drawn : (h : HandleView) (d : DrawsView) (window : ℕ) (old new : DumpSeatView) (before v : SeatView) (readings : Vec Reading Global) (p : PassView) (steps : ℕ)
     → old.work ≡ Drawing before → new ≡ record { pass = p; steps = steps; work = Drawn v readings }
     → Belongs h p → Follows old.pass p → ServesWindow d (sections_in h) window before.knows v readings.items
-    → NotesReadings (sections_in h) p readings.items → ReadsUnits (sections_in h) old.pass p old.steps steps
+    → NotesReadings (sections_in h) p readings.items → GainsUnits (sections_in h) old.pass p → CountsUnits (sections_in h) old.pass old.steps steps
     → LeavesServed h d window old new
-leaves_drawn h d window old new before v readings p steps was is belongs follows serves notes reads =
+leaves_drawn h d window old new before v readings p steps was is belongs follows serves notes gains counts =
     rw is (record {
       belongs = belongs;
       follows = follows;
-      served = rw was (serves, notes, reads);
+      counts = counts;
+      served = rw was (serves, notes, gains);
     })

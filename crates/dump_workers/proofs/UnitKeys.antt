@@ -14,13 +14,17 @@ use Rattle.unit_headers.specs.Headers.{unit_count}
 use Rattle.entry_tree.specs.declared.first.RootCode.{RootCode}
 use Rattle.entry_tree.specs.Entries.{attrs_at, coded_at, found_at, root_coded, root_in}
 use Rattle.entry_tree.specs.Keys.{GainsOnly, HasRootCode, IsKeyAmong, IsRootKeyOf, KeysKnown, KeysNoted}
-use Rattle.entry_tree.specs.Units.{BeginsWith, IsFirstEntry, area_of, entries_of, root_code_of, root_of, unit_header}
+use Rattle.entry_tree.specs.Units.{BeginsWith, IsFirstEntry, area_of, entries_of, facts_of, root_code_of, root_of, unit_header}
 use Rattle.entry_tree.specs.Views.{EntryView}
 use Rattle.entry_tree.proofs.KeyLaws.{GainsOnly-then, GainsOnly-weaker, GainsOnly-same}
 use Rattle.map_cells.specs.Seen.{PassView, Follows}
 use Rattle.handle_cache.specs.Handles.{HasWords, IsFactKey, IsWordKey, front_keys, is_spent, own_keys}
 use Rattle.handle_cache.proofs.Calls.{still_held, still_noted}
-use Rattle.dump_workers.specs.FileKeys.{AreSmallCodes, IsEntryKey, IsFileKey, IsUnitKey, KnowsFile, NotesUnit, ReadsUnits, RefusesNone}
+use Rattle.dump_workers.specs.FileKeys.{AreSmallCodes, IsEntryKey, IsFileKey, IsUnitKey, KnowsFile, NotesUnit, GainsUnits, CountsUnits, RefusesNone}
+use Rattle.unit_text.specs.Pieces.{Text}
+use Rattle.unit_text.specs.UnitStreams.{streamed_unit}
+use Rattle.unit_text.specs.UnitView.{UnitView, unit_of}
+use Rattle.unit_text.specs.Units.{read_unit_text}
 use Rattle.dump_workers.specs.UnitDumps.{unit_dump}
 
 any : {A : Type 0} (r : Result A Fault) → IfOk r (λ x. Unit {0})
@@ -121,34 +125,82 @@ module _ (s : SectionsView) (unit : ℕ) (header : UnitHeader) (entries : List E
     all_known seen table es small.1 (λ k among. has k (inr among)),
   )
 
-  pub unit_counts : (p q : PassView) (before mid after : ℕ) → unit < unit_count s.info s.order → Follows p q
-      → (HasWords (front_keys p) unit 8 → mid ≡ before) → (KeysKnown (front_keys q) header.«abbrev» entries → after ≡ mid)
-      → KnowsFile s (front_keys p) → after ≡ before
-  unit_counts p q before mid after counted f facts area knows =
+  entries_count : (p q : PassView) (mid after : ℕ) → unit < unit_count s.info s.order → Follows p q
+      → (KeysKnown (front_keys q) header.«abbrev» entries → after ≡ mid) → KnowsFile s (front_keys p) → after ≡ mid
+  entries_count p q mid after counted f area knows =
       area (all_known (front_keys q) header.«abbrev» entries (knows.codes unit header entries counted header_is entries_are)
       (λ k among. still_held p q k f (knows.keys k (record { unit = unit; counted = counted; uses = among_unit k among }))))
-      ∙ facts (λ word inside. knows.keys _ (record { unit = unit; counted = counted; uses = inl (record { word = word; inside = inside; is = refl }) }))
+
+-- where the pass knew all, asking for the unit's facts counts nothing
+words_known : (s : SectionsView) (unit : ℕ) (p : PassView) → unit < unit_count s.info s.order → KnowsFile s (front_keys p) → HasWords (front_keys p) unit 8
+words_known s unit p counted knows =
+    λ word inside. knows.keys _ (record { unit = unit; counted = counted; uses = inl (record { word = word; inside = inside; is = refl }) })
+
+pub facts_count : (s : SectionsView) (unit : ℕ) (p : PassView) (before mid : ℕ) → unit < unit_count s.info s.order
+    → (HasWords (front_keys p) unit 8 → mid ≡ before) → CountsUnits s p before mid
+facts_count s unit p before mid counted facts = record { counts = λ none knows. facts (words_known s unit p counted knows) }
+
+-- a unit whose text isn't refused has entries
+text_entries : {X : Type 0} {P : Type 0} (facts : Result X Fault) (read : Result (List EntryView) Fault) (text : X → List EntryView → Text)
+    → IsOk (facts >>= (λ f. read >>= text f)) → ((entries : List EntryView) → read ≡ Ok entries → P) → P
+text_entries (Ok x) (Ok entries) text ok go = go entries refl
+text_entries (Ok x) (Err e) text ok go = absurd (cc)
+text_entries (Err e) read text ok go = absurd (cc)
+
+dumped_entries : {P : Type 0} (s : SectionsView) (unit : ℕ) (header : UnitHeader) → unit_header s unit ≡ Ok header → IsOk (unit_dump s unit)
+    → ((entries : List EntryView) → entries_of s header ≡ Ok entries → P) → P
+unfolding unit_dump
+dumped_entries s unit header is ok go =
+    text_entries (facts_of s header) (entries_of s header) (λ facts entries. read_unit_text (unit_of s header facts) entries)
+    (subst (λ (r : Result UnitHeader Fault). IsOk (r >>= (λ h. facts_of s h >>= (λ facts. entries_of s h >>= read_unit_text (unit_of s h facts))))) is ok) go
+
+-- and reading it counts nothing, where the pass knew all, whatever came of it
+pub unit_counts : (s : SectionsView) (unit : ℕ) (header : UnitHeader) (p q : PassView) (before mid after : ℕ) → unit < unit_count s.info s.order
+    → unit_header s unit ≡ Ok header → Follows p q → (HasWords (front_keys p) unit 8 → mid ≡ before)
+    → IfOk (entries_of s header) (λ entries. KeysKnown (front_keys q) header.«abbrev» entries → after ≡ mid) → CountsUnits s p before after
+unit_counts s unit header p q before mid after counted is f facts area = record {
+  counts = λ none knows. dumped_entries s unit header is (none unit counted) (λ entries are.
+      entries_count s unit header entries is are p q mid after counted f (rw are at area) knows
+      ∙ facts (words_known s unit p counted knows));
+}
+
+-- what holds of the entries of a unit whose text was made
+of_entries : {P : List EntryView → Type 0} {Q : Type 0} (read : Result (List EntryView) Fault) (text : List EntryView → Text) (made : List ℕ)
+    → read >>= text ≡ Ok made → IfOk read P → ((entries : List EntryView) → read ≡ Ok entries → P entries → Q) → Q
+of_entries (Ok entries) text made is holds go = go entries refl holds
+of_entries (Err e) text made is holds go = absurd (cc)
+
+pub streamed_entries : {P : List EntryView → Type 0} {Q : Type 0} (u : UnitView) (made : List ℕ) → streamed_unit u ≡ Ok made
+    → IfOk (entries_of u.sections u.header) P → ((entries : List EntryView) → entries_of u.sections u.header ≡ Ok entries → P entries → Q) → Q
+unfolding streamed_unit
+streamed_entries u made is holds go = of_entries (entries_of u.sections u.header) (read_unit_text u) made is holds go
 
 -- # Units one after another
 
-pub reads_same : (s : SectionsView) (p : PassView) (steps : ℕ) → ReadsUnits s p p steps steps
-reads_same s p steps = record { gains = λ none. GainsOnly-same (IsFileKey s) (own_keys p); counts = λ none knows. refl }
+pub gains_same : (s : SectionsView) (p : PassView) → GainsUnits s p p
+gains_same s p = record { gains = λ none. GainsOnly-same (IsFileKey s) (own_keys p) }
+
+pub counts_same : (s : SectionsView) (p : PassView) (steps : ℕ) → CountsUnits s p steps steps
+counts_same s p steps = record { counts = λ none knows. refl }
 
 pub knows_later : (s : SectionsView) (p q : PassView) → Follows p q → KnowsFile s (front_keys p) → KnowsFile s (front_keys q)
 knows_later s p q f knows = record { keys = λ k uses. still_held p q k f (knows.keys k uses); codes = knows.codes }
 
-pub reads_then : (s : SectionsView) (p q r : PassView) (before mid after : ℕ) → Follows p q → ReadsUnits s p q before mid → ReadsUnits s q r mid after → ReadsUnits s p r before after
-reads_then s p q r before mid after f first second = record {
+pub gains_then : (s : SectionsView) (p q r : PassView) → GainsUnits s p q → GainsUnits s q r → GainsUnits s p r
+gains_then s p q r first second = record {
   gains = λ none. GainsOnly-then (IsFileKey s) (own_keys p) (own_keys q) (own_keys r) (first.gains none) (second.gains none);
+}
+
+pub counts_then : (s : SectionsView) (p q : PassView) (before mid after : ℕ) → Follows p q → CountsUnits s p before mid → CountsUnits s q mid after → CountsUnits s p before after
+counts_then s p q before mid after f first second = record {
   counts = λ none knows. second.counts none (knows_later s p q f knows) ∙ first.counts none knows;
 }
 
 -- one unit that was read
-pub reads_unit : (s : SectionsView) (unit : ℕ) (p q : PassView) (before after : ℕ) → unit < unit_count s.info s.order
-    → GainsOnly (IsUnitKey s unit) (own_keys p) (own_keys q) → (KnowsFile s (front_keys p) → after ≡ before) → ReadsUnits s p q before after
-reads_unit s unit p q before after counted gains known = record {
+pub gains_unit : (s : SectionsView) (unit : ℕ) (p q : PassView) → unit < unit_count s.info s.order
+    → GainsOnly (IsUnitKey s unit) (own_keys p) (own_keys q) → GainsUnits s p q
+gains_unit s unit p q counted gains = record {
   gains = λ none. GainsOnly-weaker (IsUnitKey s unit) (IsFileKey s) (own_keys p) (own_keys q) (λ k uses. record { unit = unit; counted = counted; uses = uses }) gains;
-  counts = λ none knows. known knows;
 }
 
 refused_none : (r : Result (List ℕ) Fault) (f : Fault) → r ≡ Err f → IsOk r → ⊥
@@ -159,9 +211,5 @@ refused_none (Err g) f is ok = cc
 pub none_refused : {P : Type 0} (s : SectionsView) (unit : ℕ) (f : Fault) → unit < unit_count s.info s.order → unit_dump s unit ≡ Err f → RefusesNone s → P
 none_refused s unit f counted is none = absurd (refused_none (unit_dump s unit) f is (none unit counted))
 
-pub reads_refused : (s : SectionsView) (unit : ℕ) (f : Fault) (p q : PassView) (before after : ℕ) → unit < unit_count s.info s.order → unit_dump s unit ≡ Err f
-    → ReadsUnits s p q before after
-reads_refused s unit f p q before after counted is = record {
-  gains = λ none. none_refused s unit f counted is none;
-  counts = λ none knows. none_refused s unit f counted is none;
-}
+pub gains_refused : (s : SectionsView) (unit : ℕ) (f : Fault) (p q : PassView) → unit < unit_count s.info s.order → unit_dump s unit ≡ Err f → GainsUnits s p q
+gains_refused s unit f p q counted is = record { gains = λ none. none_refused s unit f counted is none }

@@ -15,12 +15,12 @@ use Rattle.unit_headers.specs.Headers.{unit_count}
 use Rattle.dump_workers.specs.declared.reading.Reading.{Reading}
 use Rattle.dump_workers.specs.declared.seat.Work.{Work}
 use Rattle.dump_workers.specs.declared.seat.Work.TheVariants.{Idle, Drawing, Drawn}
-use Rattle.dump_workers.specs.FileKeys.{ReadsUnits, RefusesNone}
+use Rattle.dump_workers.specs.FileKeys.{CountsUnits, GainsUnits, RefusesNone}
 use Rattle.dump_workers.specs.Readings.{units_read}
-use Rattle.dump_workers.specs.Seats.{DumpSeatView, EachBelongs, EachFollows, EachReads, SameSeat}
+use Rattle.dump_workers.specs.Seats.{DumpSeatView, EachBelongs, EachCounts, EachFollows, EachGains, SameSeat}
 use Rattle.dump_workers.specs.Windows.{ComesBackWork, EachComesBack, EachNotes, HasServed, IsDrawnWork, IsGathered, IsHandedOut, IsHandedWork, IsReady, LeavesServed, MayJoinWork, MayServe, NoteWindow, NotesWork, ReadsWindow, SomeNotesReadings, SomeSeatNotesUnit, StandsBefore, with_spare}
 use Rattle.dump_workers.proofs.ReadingLaws.{holds_of, none_behind}
-use Rattle.dump_workers.proofs.SeatLaws.{belongs_at, follows_places, reads_places, some_later}
+use Rattle.dump_workers.proofs.SeatLaws.{belongs_at, counts_places, follows_places, gains_places, some_later}
 
 -- # One seat
 
@@ -33,29 +33,29 @@ handed_ready d first window place (Drawing v) none handed = (handed.of_draws, ha
 handed_ready d first window place Idle none handed = absurd handed
 handed_ready d first window place (Drawn v readings) none handed = absurd handed
 
-comes_back : (d : DrawsView) (s : SectionsView) (window : ℕ) (first : DrawView) (place : ℕ) (old : DumpSeatView) (p : PassView) (steps : ℕ) (given after : Work)
-    → IsHandedWork d first place given → HasServed d s window old p steps given after → ComesBackWork d s window first place after
-comes_back d s window first place old p steps (Drawing before) (Drawn v readings) handed served = record { before = before; handed = handed; served = served.0 }
-comes_back d s window first place old p steps (Drawing before) Idle handed served = tt
-comes_back d s window first place old p steps (Drawing before) (Drawing v) handed served = tt
-comes_back d s window first place old p steps Idle after handed served = absurd handed
-comes_back d s window first place old p steps (Drawn v readings) after handed served = absurd handed
+comes_back : (d : DrawsView) (s : SectionsView) (window : ℕ) (first : DrawView) (place : ℕ) (old : DumpSeatView) (p : PassView) (given after : Work)
+    → IsHandedWork d first place given → HasServed d s window old p given after → ComesBackWork d s window first place after
+comes_back d s window first place old p (Drawing before) (Drawn v readings) handed served = record { before = before; handed = handed; served = served.0 }
+comes_back d s window first place old p (Drawing before) Idle handed served = tt
+comes_back d s window first place old p (Drawing before) (Drawing v) handed served = tt
+comes_back d s window first place old p Idle after handed served = absurd handed
+comes_back d s window first place old p (Drawn v readings) after handed served = absurd handed
 
-served_notes : (d : DrawsView) (s : SectionsView) (window : ℕ) (first : DrawView) (place : ℕ) (old : DumpSeatView) (p : PassView) (steps : ℕ) (given after : Work)
-    → IsHandedWork d first place given → HasServed d s window old p steps given after → NotesWork s p after
-served_notes d s window first place old p steps (Drawing before) (Drawn v readings) handed served = served.1
-served_notes d s window first place old p steps (Drawing before) Idle handed served = tt
-served_notes d s window first place old p steps (Drawing before) (Drawing v) handed served = tt
-served_notes d s window first place old p steps Idle after handed served = absurd handed
-served_notes d s window first place old p steps (Drawn v readings) after handed served = absurd handed
+served_notes : (d : DrawsView) (s : SectionsView) (window : ℕ) (first : DrawView) (place : ℕ) (old : DumpSeatView) (p : PassView) (given after : Work)
+    → IsHandedWork d first place given → HasServed d s window old p given after → NotesWork s p after
+served_notes d s window first place old p (Drawing before) (Drawn v readings) handed served = served.1
+served_notes d s window first place old p (Drawing before) Idle handed served = tt
+served_notes d s window first place old p (Drawing before) (Drawing v) handed served = tt
+served_notes d s window first place old p Idle after handed served = absurd handed
+served_notes d s window first place old p (Drawn v readings) after handed served = absurd handed
 
-served_reads : (d : DrawsView) (s : SectionsView) (window : ℕ) (first : DrawView) (place : ℕ) (old : DumpSeatView) (p : PassView) (steps : ℕ) (given after : Work)
-    → IsHandedWork d first place given → IsDrawnWork after → HasServed d s window old p steps given after → ReadsUnits s old.pass p old.steps steps
-served_reads d s window first place old p steps (Drawing before) (Drawn v readings) handed drawn served = served.2
-served_reads d s window first place old p steps (Drawing before) Idle handed drawn served = absurd drawn
-served_reads d s window first place old p steps (Drawing before) (Drawing v) handed drawn served = absurd drawn
-served_reads d s window first place old p steps Idle after handed drawn served = absurd handed
-served_reads d s window first place old p steps (Drawn v readings) after handed drawn served = absurd handed
+served_gains : (d : DrawsView) (s : SectionsView) (window : ℕ) (first : DrawView) (place : ℕ) (old : DumpSeatView) (p : PassView) (given after : Work)
+    → IsHandedWork d first place given → IsDrawnWork after → HasServed d s window old p given after → GainsUnits s old.pass p
+served_gains d s window first place old p (Drawing before) (Drawn v readings) handed drawn served = served.2
+served_gains d s window first place old p (Drawing before) Idle handed drawn served = absurd drawn
+served_gains d s window first place old p (Drawing before) (Drawing v) handed drawn served = absurd drawn
+served_gains d s window first place old p Idle after handed drawn served = absurd handed
+served_gains d s window first place old p (Drawn v readings) after handed drawn served = absurd handed
 
 back_joins : (d : DrawsView) (s : SectionsView) (window : ℕ) (first : DrawView) (place : ℕ) (work : Work) → ComesBackWork d s window first place work → MayJoinWork d place work
 back_joins d s window first place (Drawn v readings) back = (
@@ -85,14 +85,14 @@ module _ (h : HandleView) (d : DrawsView) (window : ℕ) (first : DrawView) (old
     inside_old i low = omega (arith, sizes, as_many, low)
 
     pub all_come_back : EachComesBack d (sections_in h) window first served
-    all_come_back i e low = comes_back d (sections_in h) window first i (slice_index_or given i e) (slice_index_or served i e).pass (slice_index_or served i e).steps
+    all_come_back i e low = comes_back d (sections_in h) window first i (slice_index_or given i e) (slice_index_or served i e).pass
         (slice_index_or given i e).work (slice_index_or served i e).work (handed i e (inside_old i low)) (at_place i e (inside_old i low)).served
 
     pub all_may_join : (i : ℕ) (e : DumpSeatView) → i < length served → MayJoinWork d i (slice_index_or served i e).work
     all_may_join i e low = back_joins d (sections_in h) window first i (slice_index_or served i e).work (all_come_back i e low)
 
     pub all_note : EachNotes (sections_in h) served
-    all_note i e low = served_notes d (sections_in h) window first i (slice_index_or given i e) (slice_index_or served i e).pass (slice_index_or served i e).steps
+    all_note i e low = served_notes d (sections_in h) window first i (slice_index_or given i e) (slice_index_or served i e).pass
         (slice_index_or given i e).work (slice_index_or served i e).work (handed i e (inside_old i low)) (at_place i e (inside_old i low)).served
 
     module _ (new : List DumpSeatView) (new_many : length new ≡ length served)
@@ -104,14 +104,23 @@ module _ (h : HandleView) (d : DrawsView) (window : ℕ) (first : DrawView) (old
       window_follows = follows_places old new (omega (arith, sizes, as_many, new_many)) (λ i e low.
           rw (kept_at i e low).pass (subst (λ (p : PassView). Follows p (slice_index_or served i e).pass) (same i e low).pass (at_place i e low).follows))
 
-      pub window_reads : ((i : ℕ) (e : DumpSeatView) → i < length served → IsDrawnWork (slice_index_or served i e).work) → EachReads (sections_in h) old new
-      window_reads drawn = reads_places (sections_in h) old new (omega (arith, sizes, as_many, new_many)) (λ i e low.
-          reads_kept (slice_index_or old i e) (slice_index_or given i e) (slice_index_or served i e) (slice_index_or new i e) (same i e low) (kept_at i e low)
-          (served_reads d (sections_in h) window first i (slice_index_or given i e) (slice_index_or served i e).pass (slice_index_or served i e).steps
+      pub window_gains : ((i : ℕ) (e : DumpSeatView) → i < length served → IsDrawnWork (slice_index_or served i e).work) → EachGains (sections_in h) old new
+      window_gains drawn = gains_places (sections_in h) old new (omega (arith, sizes, as_many, new_many)) (λ i e low.
+          gains_kept (slice_index_or old i e) (slice_index_or given i e) (slice_index_or served i e) (slice_index_or new i e) (same i e low) (kept_at i e low)
+          (served_gains d (sections_in h) window first i (slice_index_or given i e) (slice_index_or served i e).pass
           (slice_index_or given i e).work (slice_index_or served i e).work (handed i e low) (drawn i e (omega (arith, sizes, as_many, low))) (at_place i e low).served))
         where
-          reads_kept : (o g t n : DumpSeatView) → SameSeat o g → SameSeat t n → ReadsUnits (sections_in h) g.pass t.pass g.steps t.steps → ReadsUnits (sections_in h) o.pass n.pass o.steps n.steps
-          reads_kept o g t n p q reads = rw (q.pass, q.steps, ← p.pass, ← p.steps) reads
+          gains_kept : (o g t n : DumpSeatView) → SameSeat o g → SameSeat t n → GainsUnits (sections_in h) g.pass t.pass → GainsUnits (sections_in h) o.pass n.pass
+          gains_kept o g t n p q gains = rw (q.pass, ← p.pass) gains
+
+      -- whatever was gathered
+      pub window_counts : EachCounts (sections_in h) old new
+      window_counts = counts_places (sections_in h) old new (omega (arith, sizes, as_many, new_many)) (λ i e low.
+          counts_kept (slice_index_or old i e) (slice_index_or given i e) (slice_index_or served i e) (slice_index_or new i e) (same i e low) (kept_at i e low)
+          (at_place i e low).counts)
+        where
+          counts_kept : (o g t n : DumpSeatView) → SameSeat o g → SameSeat t n → CountsUnits (sections_in h) g.pass g.steps t.steps → CountsUnits (sections_in h) o.pass o.steps n.steps
+          counts_kept o g t n p q counts = rw (q.steps, ← p.pass, ← p.steps) counts
 
       kept_seats : EachFollows served new
       kept_seats = follows_places served new new_many (λ i e low. rw (kept i e low).pass (follows_same (slice_index_or served i e).pass))

@@ -56,8 +56,10 @@ NotesUnit s unit p = (k : ℕ) → IsUnitKey s unit k → Notes (front_keys p) (
 abbrev pub NotesUnits : SectionsView → PassView → Type 0
 NotesUnits s p = (unit : ℕ) → unit < unit_count s.info s.order → NotesUnit s unit p
 
--- What reading units of a file, of which none is refused, makes of a pass and of a counter: its own entries gain keys
--- that the file uses, and where it knew them all nothing is counted.
-pub record ReadsUnits (s : SectionsView) (p q : PassView) (before after : ℕ) : Type 0 where
+-- What reading units of a file, of which none is refused, makes of a pass: its own entries gain keys that the file uses.
+pub record GainsUnits (s : SectionsView) (p q : PassView) : Type 0 where
   pub gains : RefusesNone s → GainsOnly (IsFileKey s) (own_keys p) (own_keys q)
+
+-- What reading them makes of the pass's counter: where the pass knew all that they use nothing is counted.
+pub record CountsUnits (s : SectionsView) (p : PassView) (before after : ℕ) : Type 0 where
   pub counts : RefusesNone s → KnowsFile s (front_keys p) → after ≡ before

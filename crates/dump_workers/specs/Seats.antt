@@ -5,7 +5,7 @@ use Rattle.elf_sections.specs.Shapes.{SectionsView}
 use Rattle.map_cells.specs.Seen.{PassView, Follows}
 use Rattle.handle_cache.specs.Handles.{HandleView, Belongs, front_keys, is_spent}
 use Rattle.dump_workers.specs.declared.seat.Work.{Work}
-use Rattle.dump_workers.specs.FileKeys.{IsFileKey, ReadsUnits}
+use Rattle.dump_workers.specs.FileKeys.{IsFileKey, GainsUnits, CountsUnits}
 
 -- a worker's pass and its counter, and what it holds during a dump
 pub record DumpSeatView : Type 0 where
@@ -30,14 +30,20 @@ EachFollows [] (later ∷ laters) = ⊥
 EachFollows (seat ∷ seats) [] = ⊥
 EachFollows (seat ∷ seats) (later ∷ laters) = Follows seat.pass later.pass × EachFollows seats laters
 
--- What reading the units of a file makes of the pass and the counter in each place: own entries gain keys that the
--- file uses, and where the pass knew them all nothing is counted.
-abbrev pub EachReads : SectionsView → List DumpSeatView → List DumpSeatView → Type 0
-EachReads s [] [] = Unit {0}
-EachReads s [] (later ∷ laters) = ⊥
-EachReads s (seat ∷ seats) [] = ⊥
-EachReads s (seat ∷ seats) (later ∷ laters) =
-    ReadsUnits s seat.pass later.pass seat.steps later.steps × EachReads s seats laters
+-- What reading the units of a file makes of the pass in each place: own entries gain keys that the file uses.
+abbrev pub EachGains : SectionsView → List DumpSeatView → List DumpSeatView → Type 0
+EachGains s [] [] = Unit {0}
+EachGains s [] (later ∷ laters) = ⊥
+EachGains s (seat ∷ seats) [] = ⊥
+EachGains s (seat ∷ seats) (later ∷ laters) = GainsUnits s seat.pass later.pass × EachGains s seats laters
+
+-- What it makes of the counter in each place: where the pass knew all that the file uses nothing is counted.
+abbrev pub EachCounts : SectionsView → List DumpSeatView → List DumpSeatView → Type 0
+EachCounts s [] [] = Unit {0}
+EachCounts s [] (later ∷ laters) = ⊥
+EachCounts s (seat ∷ seats) [] = ⊥
+EachCounts s (seat ∷ seats) (later ∷ laters) =
+    CountsUnits s seat.pass seat.steps later.steps × EachCounts s seats laters
 
 -- the key is in the front of some seat, or some seat's front has as many entries as the table has room for
 abbrev pub SomeSeatNotes : ℕ → List DumpSeatView → Type 0

@@ -1,5 +1,5 @@
 -- What a dump has of one unit: its text and how many entries it has. Each unit is read anew, by its definitions.
-use Rattle.std.specs.Prelude.{ℕ, zero, suc, ◌+◌, List, length, Result, Ok, Err}
+use Rattle.std.specs.Prelude.{ℕ, zero, suc, ◌+◌, List, Result}
 use Rattle.dw_fields.specs.declared.fault_code.Fault.{Fault}
 use Rattle.dw_fields.specs.Reading.{◌>>=◌}
 use Rattle.elf_sections.specs.Shapes.{SectionsView}
@@ -7,6 +7,7 @@ use Rattle.unit_headers.specs.Headers.{unit_count}
 use Rattle.entry_tree.specs.Units.{unit_header, facts_of, entries_of}
 use Rattle.entry_tree.specs.Views.{EntryView}
 use Rattle.unit_text.specs.Pieces.{Text}
+use Rattle.unit_text.specs.UnitStreams.{count_of_entries}
 use Rattle.unit_text.specs.UnitView.{unit_of}
 use Rattle.unit_text.specs.Units.{read_unit_text}
 
@@ -24,10 +25,6 @@ unfoldable pub unit_entries : SectionsView → ℕ → Result (List EntryView) F
 unit_entries s unit = do
   header ← unit_header s unit
   entries_of s header
-
-abbrev pub count_of_entries : Result (List EntryView) Fault → ℕ
-count_of_entries (Ok entries) = length entries
-count_of_entries (Err f) = 0
 
 -- how many entries a unit has
 unfoldable pub entry_count : SectionsView → ℕ → ℕ

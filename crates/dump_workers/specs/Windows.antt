@@ -11,7 +11,7 @@ use Rattle.unit_headers.specs.Headers.{unit_count}
 use Rattle.dump_workers.specs.declared.reading.Reading.{Reading}
 use Rattle.dump_workers.specs.declared.seat.Work.{Work}
 use Rattle.dump_workers.specs.declared.seat.Work.TheVariants.{Idle, Drawing, Drawn}
-use Rattle.dump_workers.specs.FileKeys.{NotesUnit, ReadsUnits, RefusesNone}
+use Rattle.dump_workers.specs.FileKeys.{NotesUnit, GainsUnits, CountsUnits, RefusesNone}
 use Rattle.dump_workers.specs.Readings.{IsReading, units_read}
 use Rattle.dump_workers.specs.Seats.{DumpSeatView}
 
@@ -49,14 +49,14 @@ IsReady d window Idle = ⊥
 IsReady d window (Drawn v readings) = ⊥
 
 -- a worker served the window, or had no memory for it
-abbrev pub HasServed : DrawsView → SectionsView → ℕ → DumpSeatView → PassView → ℕ → Work → Work → Type 0
-HasServed d s window old p steps (Drawing before) (Drawn v readings) =
+abbrev pub HasServed : DrawsView → SectionsView → ℕ → DumpSeatView → PassView → Work → Work → Type 0
+HasServed d s window old p (Drawing before) (Drawn v readings) =
     ServesWindow d s window before.knows v readings.items × NotesReadings s p readings.items
-    × ReadsUnits s old.pass p old.steps steps
-HasServed d s window old p steps (Drawing before) Idle = Unit {0}
-HasServed d s window old p steps (Drawing before) (Drawing v) = Unit {0}
-HasServed d s window old p steps Idle after = Unit {0}
-HasServed d s window old p steps (Drawn v readings) after = Unit {0}
+    × GainsUnits s old.pass p
+HasServed d s window old p (Drawing before) Idle = Unit {0}
+HasServed d s window old p (Drawing before) (Drawing v) = Unit {0}
+HasServed d s window old p Idle after = Unit {0}
+HasServed d s window old p (Drawn v readings) after = Unit {0}
 
 -- what a worker is given, and what it leaves
 pub record MayServe (h : HandleView) (d : DrawsView) (window : ℕ) (seat : DumpSeatView) : Type 0 where
@@ -66,7 +66,8 @@ pub record MayServe (h : HandleView) (d : DrawsView) (window : ℕ) (seat : Dump
 pub record LeavesServed (h : HandleView) (d : DrawsView) (window : ℕ) (old new : DumpSeatView) : Type 0 where
   pub belongs : Belongs h new.pass
   pub follows : Follows old.pass new.pass
-  pub served : HasServed d (sections_in h) window old new.pass new.steps old.work new.work
+  pub counts : CountsUnits (sections_in h) old.pass old.steps new.steps
+  pub served : HasServed d (sections_in h) window old new.pass old.work new.work
 
 -- # All workers
 

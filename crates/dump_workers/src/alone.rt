@@ -6,8 +6,8 @@ ghost use Rattle.map_cells.specs.Seen.{Follows};
 ghost use Rattle.handle_cache.specs.Handles.{Belongs, sections_in};
 ghost use Rattle.dump_workers.specs.declared.ends.DumpFault.TheVariants as dump_faults;
 ghost use Rattle.dump_workers.specs.Dumps.{CountsWhole, Ends, dump_of};
-ghost use Rattle.dump_workers.specs.FileKeys.{NotesUnits, ReadsUnits, RefusesNone};
-ghost use Rattle.dump_workers.specs.Seats.{EachBelongs, EachFollows, EachReads, SeatsNoteFile};
+ghost use Rattle.dump_workers.specs.FileKeys.{CountsUnits, GainsUnits, NotesUnits, RefusesNone};
+ghost use Rattle.dump_workers.specs.Seats.{EachBelongs, EachCounts, EachFollows, EachGains, SeatsNoteFile};
 
 use crate::ends::{DumpEnd, DumpFault, Whole};
 use crate::printing::print_text;
@@ -20,8 +20,9 @@ use entry_tree::renew;
 use handle_cache::{Handle, HandlePass};
 use std::alloc::Global;
 use unit_headers::UnitRefusal;
+use walked_tables::TableWalker;
 
-/// Dumps the units of a file through one pass.
+/// Dumps the units of a file through one pass. The arena, the walker and the text's memory serve one unit after another.
 ///
 /// # Errors
 /// Those of the sink, and want of memory.
@@ -40,30 +41,41 @@ fn dump_units<'f, G: Gate, O: Sink, L>(
     ensures cause { HasCause dump_faults.WriteFault (O.faults out.old) (O.faults out.new) result }
     ensures belongs { Belongs handle.now pass.new }
     ensures follows { Follows pass.old pass.new }
-    ensures reads { OnOk result (ReadsUnits (sections_in handle.now) pass.old pass.new
-        steps.old steps.new) }
+    ensures gains { OnOk result (GainsUnits (sections_in handle.now) pass.old pass.new) }
+    ensures counts { CountsUnits (sections_in handle.now) pass.old steps.old steps.new }
     ensures noted { OnOk result (RefusesNone (sections_in handle.now)
         → NotesUnits (sections_in handle.now) pass.new) }
 {
     let units = handle.index().count();
     let mut arena = Bump::new(alloc);
+    let mut walker = TableWalker::new(alloc, handle.sections().abbrev);
+    let mut text = Vec::new(alloc);
     let mut entries = 0;
     'units: for unit in 0..units {
         gate.enter(0, unit);
-        let read = read_text(alloc, &arena, handle, pass, unit, steps);
+        let read = read_text(
+            alloc,
+            &arena,
+            handle,
+            pass,
+            &mut walker,
+            unit,
+            &mut text,
+            steps,
+        );
         gate.leave(0, unit);
-        let read = match read {
-            Ok(read) => read,
+        let count = match read {
+            Ok(count) => count,
             Err(refusal) => match refusal {
                 UnitRefusal::Refused(fault) => return Ok(DumpEnd::Refused { unit, fault }),
                 UnitRefusal::OutOfMemory => return Err(DumpFault::OutOfMemory),
             },
         };
-        match print_text(read.text.as_slice(), out) {
+        match print_text(text.as_slice(), out) {
             Ok(()) => {}
             Err(fault) => return Err(fault),
         }
-        entries += u64::from(read.entries);
+        entries += u64::from(count);
         renew(alloc, &mut arena);
     }
     Ok(DumpEnd::Whole(Whole {
@@ -90,8 +102,9 @@ fn dump_seat<'f, G: Gate, O: Sink, L>(
     ensures whole { IfOk result (CountsWhole (sections_in handle.now) 1) }
     ensures cause { HasCause dump_faults.WriteFault (O.faults out.old) (O.faults out.new) result }
     ensures follows { Follows seat.old.pass seat.new.pass }
-    ensures reads { OnOk result (ReadsUnits (sections_in handle.now) seat.old.pass seat.new.pass
-        seat.old.steps seat.new.steps) }
+    ensures gains { OnOk result (GainsUnits (sections_in handle.now) seat.old.pass seat.new.pass) }
+    ensures counts { CountsUnits (sections_in handle.now) seat.old.pass seat.old.steps
+        seat.new.steps }
     ensures noted { OnOk result (RefusesNone (sections_in handle.now)
         → NotesUnits (sections_in handle.now) seat.new.pass) }
 {
@@ -117,8 +130,9 @@ pub(crate) fn dump_alone<'f, G: Gate, O: Sink, L>(
         (CountsWhole (sections_in handle.now) (length seats.old.items)) }
     ensures cause { HasCause dump_faults.WriteFault (O.faults out.old) (O.faults out.new) result }
     ensures follow { EachFollows seats.old.items seats.new.items }
-    ensures reads { OnOk result (EachReads (sections_in handle.now) seats.old.items
+    ensures gains { OnOk result (EachGains (sections_in handle.now) seats.old.items
         seats.new.items) }
+    ensures counts { EachCounts (sections_in handle.now) seats.old.items seats.new.items }
     ensures noted { OnOk result (RefusesNone (sections_in handle.now)
         → SeatsNoteFile (sections_in handle.now) seats.new.items) }
 {

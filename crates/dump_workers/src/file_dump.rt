@@ -9,7 +9,7 @@ ghost use Rattle.dump_workers.specs.declared.serving.TheConstants.{MOST_WORKERS}
 ghost use Rattle.dump_workers.specs.Dumps.{CountsWhole, Ends, WholeRefusesNone, dump_of};
 ghost use Rattle.dump_workers.specs.FileKeys.{RefusesNone};
 ghost use Rattle.dump_workers.specs.Passes.{EachOwnsOnly, KeepsPasses};
-ghost use Rattle.dump_workers.specs.Seats.{EachBelongs, EachFollows, EachReads, SeatsNoteFile};
+ghost use Rattle.dump_workers.specs.Seats.{EachBelongs, EachCounts, EachFollows, EachGains, SeatsNoteFile};
 ghost use Rattle.dump_workers.specs.Windows.{StandsBefore};
 
 use crate::alone::dump_alone;
@@ -51,8 +51,9 @@ fn dump_windows<'f, R: Threads + Sync, G: Gate + Sync, O: Sink, L: Send>(
         (CountsWhole (sections_in handle.now) (length seats.old.items)) }
     ensures cause { HasCause dump_faults.WriteFault (O.faults out.old) (O.faults out.new) result }
     ensures follow { EachFollows seats.old.items seats.new.items }
-    ensures reads { OnOk result (EachReads (sections_in handle.now) seats.old.items
+    ensures gains { OnOk result (EachGains (sections_in handle.now) seats.old.items
         seats.new.items) }
+    ensures counts { EachCounts (sections_in handle.now) seats.old.items seats.new.items }
     ensures noted { OnOk result (RefusesNone (sections_in handle.now)
         → SeatsNoteFile (sections_in handle.now) seats.new.items) }
 {
@@ -102,7 +103,8 @@ fn dump_windows<'f, R: Threads + Sync, G: Gate + Sync, O: Sink, L: Send>(
 /// one `write_all`. The gate is entered before each unit is read and left behind it.
 ///
 /// All seats have passes of this handle's table, at rest; they are so afterwards, whatever the answer is.
-/// Where no unit is refused and a pass has all that the units use, its counter is behind an answer what it was.
+/// Where no unit is refused and a pass has all that the units use, its counter is what it was, whatever the
+/// answer is.
 ///
 /// # Errors
 /// `WriteFault` only where the sink counted a fault, and `OutOfMemory` for want of memory. The sink has then
@@ -133,8 +135,11 @@ pub fn dump<'f, R: Threads + Sync, G: Gate + Sync, O: Sink, L: Send>(
     ensures passes { KeepsPasses seats.old.items seats.new.items }
     ensures size { length seats.new.items ≡ length seats.old.items }
 
+    // where no unit is refused, a pass that has all that the units use counts nothing, whatever the answer is
+    ensures counts { EachCounts (sections_in handle.now) seats.old.items seats.new.items }
+
     // what the table gained, where no unit is refused
-    ensures reads { OnOk result (EachReads (sections_in handle.now) seats.old.items
+    ensures gains { OnOk result (EachGains (sections_in handle.now) seats.old.items
         seats.new.items) }
     ensures only { OnOk result (RefusesNone (sections_in handle.now)
         → EachOwnsOnly (sections_in handle.now) seats.old.items

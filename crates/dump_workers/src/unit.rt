@@ -1,135 +1,137 @@
 //! One unit, read through the table of an opened file.
 
-ghost use Rattle.std.specs.Prelude.{◌≡◌, ◌<◌, ◌≤◌, ◌^◌, ℕ, IfOk, OnOk, length, map};
-ghost use Rattle.abbrev_decl.specs.Lookup.{Notes};
-ghost use Rattle.elf_sections.specs.Shapes.{AreShort, sections_view};
+ghost use Rattle.std.specs.Prelude.{◌≡◌, ◌<◌, ◌≤◌, [], IfOk, OnOk};
 ghost use Rattle.unit_headers.specs.Headers.{unit_count};
 ghost use Rattle.unit_headers.specs.Refusals.{Answers};
 ghost use Rattle.entry_tree.specs.Keys.{GainsOnly, IsKeyAmong, KeysKnown, KeysNoted};
-ghost use Rattle.entry_tree.specs.Units.{IsUnitOf, entries_of, unit_facts};
-ghost use Rattle.entry_tree.specs.Views.{entry_view};
+ghost use Rattle.entry_tree.specs.Units.{IsUnitOf, entries_of};
 ghost use Rattle.map_cells.specs.Seen.{Follows};
-ghost use Rattle.handle_cache.specs.Handles.{Belongs, HasWords, front_keys, is_spent, own_keys, sections_in};
+ghost use Rattle.handle_cache.specs.Handles.{Belongs, front_keys, is_spent, own_keys, sections_in};
+ghost use Rattle.unit_text.specs.UnitStreams.{count_of_entries, streamed_unit};
 ghost use Rattle.unit_text.specs.UnitView.{unit_of};
-ghost use Rattle.unit_text.specs.Units.{read_unit_text};
-ghost use Rattle.dump_workers.specs.FileKeys.{IsUnitKey, KnowsFile, NotesUnit, ReadsUnits, RefusesNone};
+ghost use Rattle.dump_workers.specs.FileKeys.{CountsUnits, GainsUnits, IsUnitKey, NotesUnit, RefusesNone};
 ghost use Rattle.dump_workers.specs.Readings.{IsRead};
 ghost use Rattle.dump_workers.specs.UnitDumps.{entry_count, unit_dump};
 
 use crate::reading::{Reading, UnitRead};
 use abbrev_decl::Steps;
 use bumpalo::Bump;
-use dw_fields::Fault;
-use elf_sections::Sections;
-use entry_tree::{Entry, facts_are_of_the_first_entry, read_entries};
+use entry_tree::facts_are_of_the_first_entry;
 use form_values::UnitFacts;
-use handle_cache::{Cached, Handle, HandlePass};
+use handle_cache::{CachedWalk, Handle, HandlePass};
 use std::alloc::{AllocError, Global};
 use unit_headers::{UnitHeader, UnitRefusal};
-use unit_text::write_unit;
+use unit_text::stream_unit;
+use walked_tables::TableWalker;
 
-/// The text of a unit, and how many entries it has.
-#[derive(Drop)]
-pub(crate) struct UnitText {
-    pub text: Vec<u8>,
-    pub entries: u32,
-}
-
-/// All entries of the unit of a header, whose declarations are looked up through the pass.
-fn read_unit_entries<'a, 'f: 'a, L>(
-    arena: &'a Bump,
+/// Puts the text of the unit of a header in the place of what `text` held, and answers how many entries the
+/// unit has. Their declarations are looked up through the pass.
+fn read_entries<'f, L>(
+    alloc: Global,
+    arena: &Bump,
     handle: &Handle<'f>,
     pass: &mut HandlePass<'f>,
+    walker: &mut TableWalker<'f>,
     header: &UnitHeader,
+    facts: &UnitFacts,
+    text: &mut Vec<u8>,
     steps: &mut Steps<L>,
-) -> Result<&'a [Entry<'a>], UnitRefusal>
+) -> Result<u32, UnitRefusal>
     requires belongs { Belongs handle.now pass.old }
+    requires walks { walker.old ≡ (sections_in handle.now).«abbrev» }
     requires unit { IsUnitOf (sections_in handle.now) header.now }
-    ensures entries { Answers (λ entries. map entry_view entries.now) result
-        (entries_of (sections_in handle.entry.now) header.now) }
-    ensures belongs { Belongs handle.entry.now pass.new }
+    ensures text { Answers (λ count. text.new.items) result
+        (streamed_unit (unit_of (sections_in handle.now) header.now facts.now)) }
+    ensures entries { IfOk result (λ count. count
+        ≡ count_of_entries (entries_of (sections_in handle.now) header.now)) }
+    ensures belongs { Belongs handle.now pass.new }
+    ensures walks { walker.new ≡ (sections_in handle.now).«abbrev» }
     ensures follows { Follows pass.old pass.new }
-    ensures keys { IfOk result (λ entries.
-        GainsOnly (IsKeyAmong header.now.«abbrev» (map entry_view entries.now))
-        (own_keys pass.old) (own_keys pass.new)) }
-    ensures noted { IfOk result (λ entries.
-        KeysNoted (front_keys pass.new) (is_spent pass.new)
-        header.now.«abbrev» (map entry_view entries.now)) }
-    ensures known { IfOk result (λ entries.
-        KeysKnown (front_keys pass.old) header.now.«abbrev» (map entry_view entries.now)
+    ensures keys { OnOk result (IfOk (entries_of (sections_in handle.now) header.now)
+        (λ entries. GainsOnly (IsKeyAmong header.now.«abbrev» entries)
+        (own_keys pass.old) (own_keys pass.new))) }
+    ensures noted { OnOk result (IfOk (entries_of (sections_in handle.now) header.now)
+        (λ entries. KeysNoted (front_keys pass.new) (is_spent pass.new)
+        header.now.«abbrev» entries)) }
+    ensures known { IfOk (entries_of (sections_in handle.now) header.now)
+        (λ entries. KeysKnown (front_keys pass.old) header.now.«abbrev» entries
         → steps.new ≡ steps.old) }
 {
-    let mut cached = Cached { handle, pass };
-    read_entries(arena, &mut cached, header, handle.sections(), steps)
+    let mut cached = CachedWalk {
+        handle,
+        pass,
+        walker,
+    };
+    stream_unit(
+        alloc,
+        arena,
+        &mut cached,
+        header,
+        handle.sections(),
+        facts,
+        text,
+        steps,
+    )
 }
 
-/// How many entries a unit has. It has fewer of them than `.debug_info` has bytes.
-fn count_entries(sections: &Sections<'_>, header: &UnitHeader, entries: &[Entry<'_>]) -> u32
-    requires short { AreShort (sections_view sections.now) }
-    requires unit { IsUnitOf (sections_view sections.now) header.now }
-    requires entries { entries_of (sections_view sections.now) header.now
-        ≡ Ok (map entry_view entries.now) }
-    ensures { result ≡ length entries.entry.now }
-{
-    entries.len() as u32
-}
-
-/// The text of a unit with these entries.
-fn text_of(
-    alloc: Global,
-    header: &UnitHeader,
-    entries: &[Entry<'_>],
-    sections: &Sections<'_>,
-    facts: &UnitFacts,
-) -> Result<Vec<u8>, UnitRefusal>
-    requires unit { IsUnitOf (sections_view sections.now) header.now }
-    ensures { Answers (λ text. text.items) result
-        (read_unit_text (unit_of (sections_view sections.now) header.now facts.now)
-        (map entry_view entries.now)) }
-{
-    let mut text = Vec::new(alloc);
-    write_unit(alloc, header, entries, sections, facts, &mut text)?;
-    Ok(text)
-}
-
-/// Reads a unit, and makes its text. Its entries lie in the arena.
+/// Reads a unit: puts its text in the place of what `text` held, and answers how many entries it has. In the
+/// arena lie the declarations of its entries.
 ///
 /// # Errors
 /// The first fault of the unit, or want of memory.
-#[tactic(auto, unfolding(crate::specs::UnitDumps::unit_dump, crate::specs::UnitDumps::unit_entries, crate::specs::UnitDumps::entry_count, entry_tree::specs::Units::unit_facts))]
+#[tactic(auto, unfolding(crate::specs::UnitDumps::unit_dump, crate::specs::UnitDumps::unit_entries, crate::specs::UnitDumps::entry_count, entry_tree::specs::Units::unit_facts, unit_text::specs::UnitStreams::streamed_unit))]
 pub(crate) fn read_text<'f, L>(
     alloc: Global,
     arena: &Bump,
     handle: &Handle<'f>,
     pass: &mut HandlePass<'f>,
+    walker: &mut TableWalker<'f>,
     unit: u32,
+    text: &mut Vec<u8>,
     steps: &mut Steps<L>,
-) -> Result<UnitText, UnitRefusal>
+) -> Result<u32, UnitRefusal>
     requires belongs { Belongs handle.now pass.old }
+    requires walks { walker.old ≡ (sections_in handle.now).«abbrev» }
     requires unit { unit
         < unit_count (sections_in handle.now).info (sections_in handle.now).order }
-    ensures text { Answers (λ read. read.text.items) result
+    ensures text { Answers (λ count. text.new.items) result
         (unit_dump (sections_in handle.now) unit) }
-    ensures entries { IfOk result
-        (λ read. read.entries ≡ entry_count (sections_in handle.now) unit) }
-    ensures few { IfOk result (λ read. read.entries < 2 ^ 32) }
+    ensures entries { IfOk result (λ count. count ≡ entry_count (sections_in handle.now) unit) }
     ensures belongs { Belongs handle.now pass.new }
+    ensures walks { walker.new ≡ (sections_in handle.now).«abbrev» }
     ensures follows { Follows pass.old pass.new }
     ensures noted { OnOk result (NotesUnit (sections_in handle.now) unit pass.new) }
     ensures gains { OnOk result (GainsOnly (IsUnitKey (sections_in handle.now) unit)
         (own_keys pass.old) (own_keys pass.new)) }
-    ensures known { OnOk result (KnowsFile (sections_in handle.now) (front_keys pass.old)
-        → steps.new ≡ steps.old) }
+    ensures counts { CountsUnits (sections_in handle.now) pass.old steps.old steps.new }
 {
     let header = handle.header(unit)?;
     let facts = handle.unit(pass, unit, steps)?;
-    let entries = read_unit_entries(arena, handle, pass, &header, steps)?;
+    let entries = read_entries(
+        alloc, arena, handle, pass, walker, &header, &facts, text, steps,
+    )?;
     facts_are_of_the_first_entry(handle.sections(), &header);
-    let text = text_of(alloc, &header, entries, handle.sections(), &facts)?;
-    Ok(UnitText {
-        text,
-        entries: count_entries(handle.sections(), &header, entries),
-    })
+    Ok(entries)
+}
+
+/// For each byte of a unit's entries there is room for so many bytes of text at first. Units of C++ have about 14;
+/// what isn't written costs nothing.
+const TEXT_OF_A_BYTE: u64 = 16;
+
+/// An empty text with room for that of a unit, as far as the unit's bytes tell, so that it is seldom outgrown; or with
+/// none where there is no memory for it.
+fn room_for_text(alloc: Global, handle: &Handle<'_>, unit: u32) -> Vec<u8>
+    requires { unit < unit_count (sections_in handle.now).info (sections_in handle.now).order }
+    ensures { result.items ≡ [] }
+{
+    let bytes = match handle.header(unit) {
+        Ok(header) => header.end.saturating_sub(header.entries),
+        Err(_) => 0,
+    };
+    match Vec::with_capacity(alloc, bytes.saturating_mul(TEXT_OF_A_BYTE) as usize) {
+        Ok(text) => text,
+        Err(_) => Vec::new(alloc),
+    }
 }
 
 /// Reads a unit: its text, or its first fault.
@@ -141,28 +143,29 @@ pub(crate) fn read_unit<'f, L>(
     arena: &Bump,
     handle: &Handle<'f>,
     pass: &mut HandlePass<'f>,
+    walker: &mut TableWalker<'f>,
     unit: u32,
     steps: &mut Steps<L>,
 ) -> Result<Reading, AllocError>
     requires belongs { Belongs handle.now pass.old }
+    requires walks { walker.old ≡ (sections_in handle.now).«abbrev» }
     requires unit { unit
         < unit_count (sections_in handle.now).info (sections_in handle.now).order }
     ensures unit { IfOk result (λ r. r.unit ≡ unit) }
     ensures read { IfOk result (λ r. IsRead (sections_in handle.now) unit r.read) }
     ensures belongs { Belongs handle.now pass.new }
+    ensures walks { walker.new ≡ (sections_in handle.now).«abbrev» }
     ensures follows { Follows pass.old pass.new }
     ensures noted { OnOk result (RefusesNone (sections_in handle.now)
         → NotesUnit (sections_in handle.now) unit pass.new) }
-    ensures reads { OnOk result (ReadsUnits (sections_in handle.now) pass.old pass.new
-        steps.old steps.new) }
+    ensures gains { OnOk result (GainsUnits (sections_in handle.now) pass.old pass.new) }
+    ensures counts { CountsUnits (sections_in handle.now) pass.old steps.old steps.new }
 {
-    match read_text(alloc, arena, handle, pass, unit, steps) {
-        Ok(read) => Ok(Reading {
+    let mut text = room_for_text(alloc, handle, unit);
+    match read_text(alloc, arena, handle, pass, walker, unit, &mut text, steps) {
+        Ok(entries) => Ok(Reading {
             unit,
-            read: UnitRead::Whole {
-                text: read.text,
-                entries: read.entries,
-            },
+            read: UnitRead::Whole { text, entries },
         }),
         Err(UnitRefusal::Refused(fault)) => Ok(Reading {
             unit,

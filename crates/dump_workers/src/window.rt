@@ -6,7 +6,7 @@ ghost use Rattle.unit_headers.specs.Headers.{unit_count};
 ghost use Rattle.handle_cache.specs.Handles.{sections_in};
 ghost use Rattle.dump_workers.specs.declared.serving.TheConstants.{MOST_WORKERS};
 ghost use Rattle.dump_workers.specs.FileKeys.{RefusesNone};
-ghost use Rattle.dump_workers.specs.Seats.{DumpSeatView, EachBelongs, EachFollows, EachReads};
+ghost use Rattle.dump_workers.specs.Seats.{DumpSeatView, EachBelongs, EachCounts, EachFollows, EachGains};
 ghost use Rattle.dump_workers.specs.Windows.{NoteWindow, ReadsWindow, StandsBefore};
 
 use crate::hands::{gather, hand_out};
@@ -47,8 +47,9 @@ pub(crate) fn read_window<'f, R: Threads + Sync, G: Gate + Sync, L: Send>(
     ensures belong { EachBelongs handle.now seats.new.items }
     ensures stands { IfOk result (λ r. StandsBefore draws.now (window + 1) r.0) }
     ensures reads { IfOk result (λ r. ReadsWindow (sections_in handle.now) window r.1.items) }
-    ensures table { OnOk result (EachReads (sections_in handle.now) seats.old.items
+    ensures gains { OnOk result (EachGains (sections_in handle.now) seats.old.items
         seats.new.items) }
+    ensures counts { EachCounts (sections_in handle.now) seats.old.items seats.new.items }
     ensures noted { OnOk result (RefusesNone (sections_in handle.now)
         → NoteWindow (sections_in handle.now) window seats.new.items) }
 {

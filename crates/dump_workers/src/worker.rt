@@ -7,7 +7,7 @@ ghost use Rattle.unit_headers.specs.Headers.{unit_count};
 ghost use Rattle.map_cells.specs.Seen.{Follows};
 ghost use Rattle.handle_cache.specs.Handles.{Belongs, sections_in};
 ghost use Rattle.dump_workers.specs.declared.serving.TheConstants.{MOST_WORKERS};
-ghost use Rattle.dump_workers.specs.FileKeys.{NotesUnit, ReadsUnits, RefusesNone};
+ghost use Rattle.dump_workers.specs.FileKeys.{CountsUnits, GainsUnits, NotesUnit, RefusesNone};
 ghost use Rattle.dump_workers.specs.Readings.{IsRead};
 ghost use Rattle.dump_workers.specs.RefusedUnits.{IsBehindRefused};
 ghost use Rattle.dump_workers.specs.Seats.{DumpSeatView};
@@ -26,6 +26,7 @@ use handle_cache::{Handle, HandlePass};
 use std::alloc::{AllocError, Global};
 use std::thread::Threads;
 use unit_draws::DrawSeat;
+use walked_tables::TableWalker;
 
 /// Puts what was read of a unit at the list's end.
 fn add_reading(readings: &mut Vec<Reading>, reading: Reading) -> Result<(), AllocError>
@@ -92,10 +93,12 @@ fn read_drawn<'f, G: Gate, L>(
     window: u32,
     unit: u32,
     pass: &mut HandlePass<'f>,
+    walker: &mut TableWalker<'f>,
     steps: &mut Steps<L>,
     seat: &mut DrawSeat,
 ) -> Result<Reading, AllocError>
     requires belongs { Belongs handle.now pass.old }
+    requires walks { walker.old ≡ (sections_in handle.now).«abbrev» }
     requires units { draws.now.sizes.units
         ≡ unit_count (sections_in handle.now).info (sections_in handle.now).order }
     requires tag { draws.now.tag ≡ handle.now.file }
@@ -105,11 +108,12 @@ fn read_drawn<'f, G: Gate, L>(
     ensures unit { IfOk result (λ r. r.unit ≡ unit) }
     ensures read { IfOk result (λ r. IsRead (sections_in handle.now) unit r.read) }
     ensures belongs { Belongs handle.now pass.new }
+    ensures walks { walker.new ≡ (sections_in handle.now).«abbrev» }
     ensures follows { Follows pass.old pass.new }
     ensures noted { OnOk result (RefusesNone (sections_in handle.now)
         → NotesUnit (sections_in handle.now) unit pass.new) }
-    ensures reads { OnOk result (ReadsUnits (sections_in handle.now) pass.old pass.new
-        steps.old steps.new) }
+    ensures gains { OnOk result (GainsUnits (sections_in handle.now) pass.old pass.new) }
+    ensures counts { CountsUnits (sections_in handle.now) pass.old steps.old steps.new }
     ensures of { IsSeatOf draws.now seat.new }
     ensures keeps { KeepsDrawn seat.old.knows seat.new.knows }
 {
@@ -118,7 +122,7 @@ fn read_drawn<'f, G: Gate, L>(
         return Ok(Reading { unit, read });
     }
     gate.enter(worker, unit);
-    let read = read_unit(alloc, arena, handle, pass, unit, steps);
+    let read = read_unit(alloc, arena, handle, pass, walker, unit, steps);
     gate.leave(worker, unit);
     match read {
         Ok(reading) => {
@@ -129,8 +133,8 @@ fn read_drawn<'f, G: Gate, L>(
     }
 }
 
-/// Draws units of the window until none is left, and reads each of them, in an arena that is used for one
-/// after another.
+/// Draws units of the window until none is left, and reads each of them. The arena and the walker serve one after
+/// another.
 ///
 /// # Errors
 /// Want of memory.
@@ -158,14 +162,26 @@ fn work_window<'f, G: Gate, L>(
         seat.old.knows seat.new readings.items) }
     ensures noted { IfOk result
         (λ readings. NotesReadings (sections_in handle.now) pass.new readings.items) }
-    ensures reads { OnOk result (ReadsUnits (sections_in handle.now) pass.old pass.new
-        steps.old steps.new) }
+    ensures gains { OnOk result (GainsUnits (sections_in handle.now) pass.old pass.new) }
+    ensures counts { CountsUnits (sections_in handle.now) pass.old steps.old steps.new }
 {
     let mut arena = Bump::new(alloc);
+    let mut walker = TableWalker::new(alloc, handle.sections().abbrev);
     let mut readings = Vec::new(alloc);
     'units: while let Some(unit) = draws.draw(seat, window) {
         let read = read_drawn(
-            alloc, &arena, handle, draws, gate, worker, window, unit, pass, steps, seat,
+            alloc,
+            &arena,
+            handle,
+            draws,
+            gate,
+            worker,
+            window,
+            unit,
+            pass,
+            &mut walker,
+            steps,
+            seat,
         );
         let reading = match read {
             Ok(reading) => reading,

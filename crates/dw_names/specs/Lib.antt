@@ -3,3 +3,4 @@ pub mod Tags
 pub mod Attributes
 pub mod Forms
 pub mod Texts
+pub mod Rows

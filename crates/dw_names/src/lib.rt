@@ -7,10 +7,11 @@
 
 mod attributes;
 mod forms;
+mod rows;
 mod tags;
 mod texts;
 
-pub use attributes::attribute_name;
+pub use attributes::{attribute_name, prepend_attribute_after};
 pub use forms::form_name;
-pub use tags::tag_name;
+pub use tags::{prepend_tag_after, tag_name};
 pub use texts::{push_attribute_after, push_form_after, push_tag_after};

@@ -3,7 +3,5 @@ pub mod Ended
 pub mod ExerciseEnded
 pub mod FirstRefusalLaws
 pub mod LinesSent
-pub mod ListParts
 pub mod SectionsText
 pub mod UnitsPrinted
-pub mod Walking

@@ -10,4 +10,3 @@ pub mod Output
 pub mod RefusalLines
 pub mod Parts
 pub mod Queries
-pub mod WalkedTables

@@ -30,7 +30,6 @@ mod tables;
 mod unit_reader;
 mod unit_texts;
 mod units;
-mod walked_table;
 
 pub use elf_builder::ElfBuilder;
 pub use endings::RunEnd;

@@ -23,11 +23,11 @@ pub enum Part {
     Lists,
 }
 
-/// Appends this part of unit `unit` of an opened file. The unit's entries lie in the arena.
+/// Appends this part of unit `unit` of an opened file. Declarations lie in the arena.
 ///
 /// # Errors
 /// The first fault of the part, or want of memory; `out` is then as it was.
-#[tactic(auto, unfolding(crate::specs::Parts::unit_part, crate::specs::Parts::part_of, crate::specs::Parts::facts_and_entries, entry_tree::specs::Units::unit_facts))]
+#[tactic(auto, unfolding(crate::specs::Parts::unit_part, crate::specs::Parts::part_of, entry_tree::specs::Units::unit_facts))]
 pub fn append_part(
     alloc: Global,
     part: Part,

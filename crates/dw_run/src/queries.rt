@@ -11,12 +11,12 @@ ghost use Rattle.dw_run.specs.Queries.{query_printed};
 use crate::file_command::FileCommand;
 use crate::opened::{OpenedCommand, open_and_print};
 use crate::refusals::Refusal;
-use crate::walked_table::TableWalker;
 use abbrev_decl::Steps;
 use dw_outside::{Sink, WriteStop, write_all};
 use handle_cache::{Handle, HandlePass};
 use std::alloc::Global;
 use visit_queries::{Visitor, WalkStop, walk};
+use walked_tables::TableWalker;
 
 /// The report of a visitor.
 #[derive(Drop)]

@@ -1,36 +1,33 @@
 //! The units of an opened file, as one reader goes over them.
 
-ghost use Rattle.std.specs.Prelude.{◌≡◌, ◌<◌, IfOk, map};
-ghost use Rattle.elf_sections.specs.Shapes.{AreShort, sections_view};
-ghost use Rattle.entry_tree.specs.Kept.{kept_entries};
-ghost use Rattle.entry_tree.specs.Units.{IsUnitOf, entries_of, unit_facts, unit_header};
-ghost use Rattle.entry_tree.specs.Views.{entry_view};
+ghost use Rattle.std.specs.Prelude.{◌≡◌, ◌<◌, IfOk};
+ghost use Rattle.entry_tree.specs.Units.{IsUnitOf, unit_facts, unit_header};
 ghost use Rattle.unit_headers.specs.Headers.{unit_count};
-ghost use Rattle.unit_headers.specs.Refusals.{Answers};
-ghost use Rattle.unit_text.specs.Lists.{is_list_attribute};
 ghost use Rattle.unit_text.specs.Pieces.{Writes};
+ghost use Rattle.unit_text.specs.UnitStreams.{streamed_lists};
+ghost use Rattle.unit_text.specs.UnitView.{unit_of};
 ghost use Rattle.handle_cache.specs.Handles.{Belongs, sections_in};
-ghost use Rattle.dw_run.specs.Parts.{lists_with};
 
 use abbrev_decl::Steps;
 use bumpalo::Bump;
 use dw_fields::Fault;
-use elf_sections::Sections;
-use entry_tree::{Entry, read_entries, read_kept_entries};
 use form_values::UnitFacts;
-use handle_cache::{Cached, Handle, HandlePass};
+use handle_cache::{CachedWalk, Handle, HandlePass};
 use line_text::LineTables;
 use std::alloc::Global;
 use std::marker::Model;
 use unit_headers::{UnitHeader, UnitRefusal};
-use unit_text::{LastLists, ListAttrs, write_lists_with};
+use unit_text::{LastLists, stream_lists};
+use walked_tables::TableWalker;
 
 /// One reader of an opened file. It looks declarations and the facts of units up through its pass,
-/// and keeps the line table and the lists that it read last.
+/// and keeps the line table and the lists that it read last. Declarations that the file's table doesn't
+/// have are walked to from where the last walk in the same table of declarations ended.
 #[derive(Drop)]
 pub struct UnitReader<'h, 'f> {
     handle: &'h Handle<'f>,
     pass: &'h mut HandlePass<'f>,
+    walker: TableWalker<'f>,
     pub(crate) tables: LineTables<'f>,
     pub(crate) lists: LastLists<'f>,
 }
@@ -45,18 +42,24 @@ impl<'h, 'f> Model for UnitReader<'h, 'f> {
     ghost view = { λ r. sections_in r.handle.now };
 
     ghost invariant = { λ r. Belongs r.handle.now r.pass.now
-        × (r.tables ≡ sections_in r.handle.now) × (r.lists ≡ sections_in r.handle.now) };
+        × (r.tables ≡ sections_in r.handle.now) × (r.lists ≡ sections_in r.handle.now)
+        × (r.walker ≡ (sections_in r.handle.now).«abbrev») };
 }
 
 impl<'h, 'f> UnitReader<'h, 'f> {
     /// The reader of this file with this pass, which belongs to the file and is at rest.
-    pub fn new(handle: &'h Handle<'f>, pass: &'h mut HandlePass<'f>) -> UnitReader<'h, 'f>
+    pub fn new(
+        alloc: Global,
+        handle: &'h Handle<'f>,
+        pass: &'h mut HandlePass<'f>,
+    ) -> UnitReader<'h, 'f>
         requires { Belongs handle.now pass.old }
         ensures { result ≡ sections_in handle.entry.now }
     {
         UnitReader {
             handle,
             pass,
+            walker: TableWalker::new(alloc, handle.sections().abbrev),
             tables: LineTables::new(handle.sections()),
             lists: LastLists::new(handle.sections()),
         }
@@ -67,14 +70,6 @@ impl<'h, 'f> UnitReader<'h, 'f> {
         ensures { result ≡ unit_count self.now.info self.now.order }
     {
         self.handle.index().count()
-    }
-
-    /// The file's sections with debugging data.
-    pub fn sections(&self) -> &'h Sections<'f>
-        ensures sections { sections_view result.now ≡ self.now }
-        ensures short { AreShort (sections_view result.now) }
-    {
-        self.handle.sections()
     }
 
     /// The header of unit `unit`.
@@ -102,30 +97,11 @@ impl<'h, 'f> UnitReader<'h, 'f> {
         self.handle.unit(self.pass, unit, &mut steps)
     }
 
-    /// All entries of the unit of a header, in the arena.
-    ///
-    /// # Errors
-    /// Those of [`read_entries`].
-    pub fn entries<'a>(
-        &mut self,
-        arena: &'a Bump,
-        header: &UnitHeader,
-    ) -> Result<&'a [Entry<'a>], UnitRefusal>
-    where
-        'f: 'a,
-        requires { IsUnitOf self.old header.now }
-        ensures entries { Answers (λ entries. map entry_view entries.now) result
-            (entries_of self.old header.now) }
-        ensures same { self.new ≡ self.old }
-    {
-        read_unit_entries(arena, self.handle, self.pass, header)
-    }
-
     /// Appends the range lists and location lists of all entries of the unit of a header with these
-    /// facts. Of the entries only the attributes that may have a list lie in the arena.
+    /// facts. Of the entries only the declarations lie in the arena.
     ///
     /// # Errors
-    /// Those of [`read_entries`], else those of [`unit_text::write_lists`]. `out` is then as it was.
+    /// Those of [`stream_lists`]. `out` is then as it was.
     pub fn write_lists(
         &mut self,
         alloc: Global,
@@ -136,57 +112,61 @@ impl<'h, 'f> UnitReader<'h, 'f> {
     ) -> Result<(), UnitRefusal>
         requires { IsUnitOf self.old header.now }
         ensures text { Writes result out.old.items out.new.items
-            (lists_with self.old header.now facts.now) }
+            (streamed_lists (unit_of self.old header.now facts.now)) }
         ensures same { self.new ≡ self.old }
     {
-        let entries = match read_list_entries(arena, self.handle, self.pass, header) {
-            Ok(entries) => entries,
-            Err(refusal) => return Err(refusal),
-        };
-        write_lists_with(alloc, &mut self.lists, header, facts, entries, out)
+        write_unit_lists(
+            alloc,
+            arena,
+            self.handle,
+            self.pass,
+            &mut self.walker,
+            &mut self.lists,
+            header,
+            facts,
+            out,
+        )
     }
 }
 
-/// All entries of the unit of a header, whose declarations are looked up through the pass.
+/// Appends the lists of the unit of a header, whose declarations are looked up through the pass.
 #[inline(never)]
-fn read_unit_entries<'a, 'f: 'a>(
+fn write_unit_lists<'a, 'f: 'a>(
+    alloc: Global,
     arena: &'a Bump,
     handle: &Handle<'f>,
     pass: &mut HandlePass<'f>,
+    walker: &mut TableWalker<'f>,
+    lists: &mut LastLists<'f>,
     header: &UnitHeader,
-) -> Result<&'a [Entry<'a>], UnitRefusal>
+    facts: &UnitFacts,
+    out: &mut Vec<u8>,
+) -> Result<(), UnitRefusal>
     requires belongs { Belongs handle.now pass.old }
+    requires walks { walker.old ≡ (sections_in handle.now).«abbrev» }
+    requires lists { lists.old ≡ sections_in handle.now }
     requires unit { IsUnitOf (sections_in handle.now) header.now }
-    ensures entries { Answers (λ entries. map entry_view entries.now) result
-        (entries_of (sections_in handle.entry.now) header.now) }
+    ensures text { Writes result out.old.items out.new.items
+        (streamed_lists (unit_of (sections_in handle.entry.now) header.now facts.now)) }
     ensures belongs { Belongs handle.entry.now pass.new }
+    ensures walks { walker.new ≡ (sections_in handle.entry.now).«abbrev» }
+    ensures lists { lists.new ≡ sections_in handle.entry.now }
 {
     let mut steps = Steps::start(());
-    let mut cached = Cached { handle, pass };
-    read_entries(arena, &mut cached, header, handle.sections(), &mut steps)
-}
-
-/// The same entries, of whose attributes those are left that may have a list.
-#[inline(never)]
-fn read_list_entries<'a, 'f: 'a>(
-    arena: &'a Bump,
-    handle: &Handle<'f>,
-    pass: &mut HandlePass<'f>,
-    header: &UnitHeader,
-) -> Result<&'a [Entry<'a>], UnitRefusal>
-    requires belongs { Belongs handle.now pass.old }
-    requires unit { IsUnitOf (sections_in handle.now) header.now }
-    ensures entries { Answers (λ entries. map entry_view entries.now) result
-        (kept_entries is_list_attribute (entries_of (sections_in handle.entry.now) header.now)) }
-    ensures belongs { Belongs handle.entry.now pass.new }
-{
-    let mut steps = Steps::start(());
-    let mut cached = Cached { handle, pass };
-    read_kept_entries::<Cached<'_, 'f>, ListAttrs, ()>(
+    let mut cached = CachedWalk {
+        handle,
+        pass,
+        walker,
+    };
+    stream_lists(
+        alloc,
+        lists,
         arena,
         &mut cached,
         header,
         handle.sections(),
+        facts,
+        out,
         &mut steps,
     )
 }

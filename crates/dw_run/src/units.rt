@@ -143,7 +143,7 @@ pub(crate) fn print_parts<'f, O: Sink>(
         (O.held out.old) (O.held out.new) }
     ensures cause { HasCause write_stops.Failed (O.faults out.old) (O.faults out.new) result }
 {
-    let mut reader = UnitReader::new(&*handle, pass);
+    let mut reader = UnitReader::new(alloc, &*handle, pass);
     let mut units = UnitParts {
         alloc,
         part,

@@ -6,7 +6,10 @@ use Rattle.std.proofs.lemmas.List.{drop-set}
 use Rattle.std.proofs.lemmas.Bool.Decides.{nat_tests}
 use Rattle.std.specs.Fmt.{digits, digits_onto, digit_glyph}
 use Rattle.std.proofs.lemmas.Fmt.{length-decimal-le}
-use Rattle.dw_text.specs.Numbers.{decimal, last_digits, sixteen}
+use Rattle.std.proofs.Common.{subst, Bool, ◌&&◌, T, eqb, eqb→eq, get_or, eq-zero-or-pos, inl, inr, ◌*◌}
+use lib.Ieee.Fits.{and_l, and_r}
+use Rattle.dw_text.specs.Numbers.{decimal, hex, last_digits, sixteen}
+use Rattle.dw_text.specs.declared.digits.TheConstants.{PAIRS}
 
 -- the digits of n, the last k at most, before those that stand
 unfoldable pub onto : ℕ → ℕ → List ℕ → List ℕ
@@ -86,3 +89,62 @@ sixteen_end (suc k) n filled e = absurd (omega arith)
 
 pub few_digits : (n : ℕ) → n < 2 ^ 64 → length (decimal n) ≤ 20
 few_digits n fits = length-decimal-le 20 n (omega arith) (omega arith) fits
+
+-- the table of pairs is walked over once
+abbrev are_pairs : ℕ → Bool
+are_pairs zero = true
+are_pairs (suc b) = (eqb (get_or PAIRS (b * 2) 0) (digit_glyph false (b / 16)) && eqb (get_or PAIRS (b * 2 + 1) 0) (digit_glyph false (b % 16))) && are_pairs b
+
+pair_below : (n b : ℕ) → T (are_pairs n) → b < n → (get_or PAIRS (b * 2) 0 ≡ digit_glyph false (b / 16)) × (get_or PAIRS (b * 2 + 1) 0 ≡ digit_glyph false (b % 16))
+pair_below zero b t h = absurd (omega arith)
+pair_below (suc n) b t h =
+    elim (eq-zero-or-pos (n - b)) [
+      | inl z ↦ let e : b ≡ n = omega arith in let a = and_l _ (are_pairs n) t in rw e (eqb→eq _ _ (and_l _ _ a), eqb→eq _ _ (and_r _ _ a))
+      | inr g ↦ pair_below n b (and_r _ (are_pairs n) t) (omega arith)
+    ]
+
+pub pair_at : (b : ℕ) → b < 256 → (get_or PAIRS (b * 2) 0 ≡ digit_glyph false (b / 16)) × (get_or PAIRS (b * 2 + 1) 0 ≡ digit_glyph false (b % 16))
+pair_at b h = pair_below 256 b tt h
+
+-- two digits at a time
+pub onto_two : (n left : ℕ) (acc : List ℕ) → 256 ≤ n → 1 < left
+    → onto (48 + left) n acc ≡ onto (48 + (left - 2)) (n / 256) (digit_glyph false (n % 256 / 16) ∷ digit_glyph false (n % 256 % 16) ∷ acc)
+onto_two n left acc more some =
+    let a : n / 16 / 16 ≡ n / 256 = omega arith in
+    let b : n / 16 % 16 ≡ n % 256 / 16 = omega arith in
+    let c : n % 16 ≡ n % 256 % 16 = omega arith in
+    let d : left - 1 - 1 ≡ left - 2 = omega arith in
+    onto_more n left acc (omega arith) (omega arith)
+    ∙ onto_more (n / 16) (left - 1) (digit_glyph false (n % 16) ∷ acc) (omega arith) (omega arith)
+    ∙ (λ i. onto (48 + d i) (a i) (digit_glyph false (b i) ∷ digit_glyph false (c i) ∷ acc))
+
+pub quotient_two : (n left : ℕ) → 256 ≤ n → n < 16 ^ left → (2 < left) × (n / 256 < 16 ^ (left - 2))
+quotient_two n left more small =
+    let one = left_above n left (omega arith) small in
+    let less = quotient_small n left (omega arith) small in
+    let two = left_above (n / 16) (left - 1) (omega arith) less in
+    let a : n / 16 / 16 ≡ n / 256 = omega arith in
+    let d : left - 1 - 1 ≡ left - 2 = omega arith in
+    (omega arith, subst (λ m. m < 16 ^ (left - 2)) a (subst (λ m. n / 16 / 16 < 16 ^ m) d (quotient_small (n / 16) (left - 1) (omega arith) less)))
+
+-- a number of two digits
+pub hex_pair : (n : ℕ) → 16 ≤ n → n < 256 → hex n ≡ digit_glyph false (n / 16) ∷ digit_glyph false (n % 16) ∷ []
+hex_pair n more less =
+    sym (append-nil (hex n))
+    ∙ sym (onto_begin n [])
+    ∙ onto_more n 16 [] more (omega arith)
+    ∙ onto_last (n / 16) 15 (digit_glyph false (n % 16) ∷ []) (omega arith) (omega arith)
+
+pub hex_one : (n : ℕ) → n < 16 → hex n ≡ digit_glyph false n ∷ []
+hex_one n less = sym (append-nil (hex n)) ∙ sym (onto_begin n []) ∙ onto_last n 16 [] less (omega arith)
+
+-- the one or two digits that are left
+pub onto_small : (n left : ℕ) (acc : List ℕ) → n < 256 → 1 < left → onto (48 + left) n acc ≡ hex n ++ acc
+onto_small n left acc less some =
+    elim (eq-zero-or-pos (16 - n)) [
+      | inl two ↦
+          onto_more n left acc (omega arith) (omega arith)
+          ∙ onto_last (n / 16) (left - 1) (digit_glyph false (n % 16) ∷ acc) (omega arith) (omega arith)
+          ∙ ap (λ t. t ++ acc) (sym (hex_pair n (omega arith) less))
+      | inr one ↦ onto_last n left acc (omega arith) (omega arith) ∙ ap (λ t. t ++ acc) (sym (hex_one n (omega arith)))
+    ]

@@ -1,18 +1,18 @@
 -- Laws of what is appended.
 use Rattle.std.proofs.Common.{ℕ, zero, suc, ◌+◌, ◌-◌, ◌/◌, ◌%◌, ◌<◌, ◌≤◌, ◌≡◌, refl, sym, ap, subst, ◌∙◌, true, false, List, [], ◌∷◌, ◌++◌, length, drop, take, set, get_or, append_assoc, append-nil, drop-cons, drop_of_length-le, length-drop, arith}
-use Rattle.std.proofs.lemmas.List.{take_more, take_more_set, length-set, get_or-drop}
-use Rattle.std.proofs.Common.{ltb}
+use Rattle.std.proofs.lemmas.List.{take_more_set, length-set, get_or-drop}
+use Rattle.std.proofs.Common.{ltb, drop-drop}
 use Rattle.std.proofs.lemmas.Bool.{false≢true}
 use Rattle.std.proofs.lemmas.Bool.Decides.{nat_tests}
 use Rattle.std.specs.Prelude.{Result}
 use Rattle.std.specs.Fmt.{digit_glyph}
 use Rattle.std.proofs.Math.IntN.{ℤ, pos, negsuc, nat_abs}
 use Rattle.std.specs.Int.Signed.{lt_z}
-use Rattle.dw_text.specs.Laws.{adds_then}
+use Rattle.dw_text.specs.Laws.{adds_then, plain_escape}
 use Rattle.dw_text.specs.Added.{Adds, labelled}
 use Rattle.dw_text.specs.Numbers.{signed, decimal}
 use Rattle.dw_text.specs.Bytes.{hex_bytes}
-use Rattle.dw_text.specs.Escapes.{is_plain, escape, escaped}
+use Rattle.dw_text.specs.Escapes.{escape, escaped, IsPlainFrom}
 
 pub hex_bytes_parts : (n : ℕ) (bytes : List ℕ) → hex_bytes bytes ≡ hex_bytes (take n bytes) ++ hex_bytes (drop n bytes)
 unfolding hex_bytes
@@ -35,10 +35,6 @@ take_two xs i x y within =
     ∙ take_more_set (set xs i x) (i + 1) y (omega arith)
     ∙ ap (λ l. l ++ (y ∷ [])) (take_more_set xs i x (omega arith))
     ∙ append_assoc (take i xs) (x ∷ []) (y ∷ [])
-
-pub plain_escape : (b : ℕ) → is_plain b ≡ true → escape b ≡ b ∷ []
-unfolding escape
-plain_escape b e = rw e refl
 
 pub escaped_at : (text : List ℕ) (i : ℕ) → i < length text → escaped (drop i text) ≡ escape (get_or text i 0) ++ escaped (drop (i + 1) text)
 unfolding escaped
@@ -78,19 +74,22 @@ unfolding hex_bytes
 chunk_end old [] e = sym (append-nil old)
 chunk_end old (b ∷ bytes) e = absurd (omega arith)
 
-pub run_more : (text : List ℕ) (from end : ℕ) → from ≤ end → end < length text → is_plain (get_or text end 0) ≡ true
+-- plain bytes at the start of a text stand as they are
+plain_run : (xs : List ℕ) (n : ℕ) → n ≤ length xs → IsPlainFrom xs 0 n → escaped xs ≡ take n xs ++ escaped (drop n xs)
+unfolding escaped
+plain_run xs zero within p = refl
+plain_run [] (suc n) within p = absurd (omega arith)
+plain_run (x ∷ xs) (suc n) within p =
+    ap (λ t. t ++ escaped xs) (plain_escape x (p 0 (omega arith) (omega arith)))
+    ∙ ap (λ t. x ∷ t) (plain_run xs n (omega arith) (λ k low high. p (suc k) (omega arith) (omega arith)))
+
+-- bytes that stand for themselves are their own text with escapes
+pub run_of : (text : List ℕ) (from end : ℕ) → from ≤ end → end ≤ length text → IsPlainFrom text from end
     → escaped (drop from text) ≡ take (end - from) (drop from text) ++ escaped (drop end text)
-    → escaped (drop from text) ≡ take (end + 1 - from) (drop from text) ++ escaped (drop (end + 1) text)
-run_more text from end begins within plain e =
-    let n : end + 1 - from ≡ (end - from) + 1 = omega arith in
-    let k : from + (end - from) ≡ end = omega arith in
-    let b = get_or text end 0 in
-    let one = take_more (drop from text) (end - from) 0 (omega (arith, length-drop from text)) ∙ ap (λ x. take (end - from) (drop from text) ++ (x ∷ [])) (get_or-drop from text (end - from) 0 ∙ ap (λ j. get_or text j 0) k) in
-    e
-    ∙ ap (λ t. take (end - from) (drop from text) ++ t) (escaped_at text end within ∙ ap (λ t. t ++ escaped (drop (end + 1) text)) (plain_escape b plain))
-    ∙ sym (append_assoc (take (end - from) (drop from text)) (b ∷ []) (escaped (drop (end + 1) text)))
-    ∙ ap (λ t. t ++ escaped (drop (end + 1) text)) (sym one)
-    ∙ ap (λ j. take j (drop from text) ++ escaped (drop (end + 1) text)) (sym n)
+run_of text from end begins within plain =
+    let n : from + (end - from) ≡ end = omega arith in
+    plain_run (drop from text) (end - from) (omega (arith, length-drop from text)) (λ k low high. rw (get_or-drop from text k 0) (plain (from + k) (omega arith) (omega arith)))
+    ∙ ap (λ t. take (end - from) (drop from text) ++ escaped t) (drop-drop (end - from) from text ∙ ap (λ j. drop j text) n)
 
 pub run_last : (old mid text : List ℕ) (done end : ℕ) → length text ≤ end
     → escaped (drop done text) ≡ take (end - done) (drop done text) ++ escaped (drop end text)
@@ -114,3 +113,14 @@ signed_below (pos n) e = absurd (false≢true (sym (no n) ∙ e))
     no : (n : ℕ) → ltb n 0 ≡ false
     no n = grind (arith, nat_tests)
 signed_below (negsuc n) e = refl
+
+pub signed_above : (z : ℤ) → lt_z z (pos 0) ≡ false → signed z ≡ labelled [] (decimal (nat_abs z))
+unfolding labelled
+signed_above (pos n) e = refl
+signed_above (negsuc n) e = absurd (false≢true (sym e))
+
+-- a front that is within the first of two parts
+pub drop_inside : (n : ℕ) (front behind : List ℕ) → n ≤ length front → drop n (front ++ behind) ≡ drop n front ++ behind
+drop_inside zero front behind within = refl
+drop_inside (suc n) [] behind within = absurd (omega arith)
+drop_inside (suc n) (b ∷ front) behind within = drop_inside n front behind (omega arith)

@@ -1,5 +1,5 @@
 -- Texts with escapes.
-use Rattle.std.specs.Prelude.{ℕ, ◌/◌, ◌%◌, Bool, false, ◌&&◌, ◌||◌, not, if◌then◌else◌, ◌==◌, nat_le, List, [], ◌∷◌, ◌++◌}
+use Rattle.std.specs.Prelude.{◌≡◌, ℕ, ◌/◌, ◌%◌, ◌<◌, ◌≤◌, Bool, true, false, ◌&&◌, ◌||◌, not, if◌then◌else◌, ◌==◌, nat_le, List, [], ◌∷◌, ◌++◌, get_or}
 use Rattle.std.specs.Fmt.{digit_glyph}
 
 -- the bytes 20 to 7e stand for themselves, but not `"` and `\`
@@ -17,3 +17,7 @@ escape b =
 unfoldable pub escaped : List ℕ → List ℕ
 escaped [] = []
 escaped (b ∷ bytes) = escape b ++ escaped bytes
+
+-- the bytes of a text from place i on, up to place j, stand for themselves
+abbrev pub IsPlainFrom : List ℕ → ℕ → ℕ → Type 0
+IsPlainFrom text i j = (k : ℕ) → i ≤ k → k < j → is_plain (get_or text k 0) ≡ true

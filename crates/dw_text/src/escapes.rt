@@ -1,11 +1,14 @@
 //! Escaped text.
-ghost use Rattle.std.specs.Prelude.{◌≡◌, ◌≤◌, ◌++◌, ◌-◌, length, drop, take};
+ghost use Rattle.std.specs.Prelude.{◌≡◌, ◌+◌, ◌≤◌, IsTrue, length};
 ghost use Rattle.dw_text.specs.Added.{Adds, labelled};
-ghost use Rattle.dw_text.specs.Escapes.{escape, escaped, is_plain};
+ghost use Rattle.dw_text.specs.Escapes.{IsPlainFrom, escape, escaped, is_plain};
 
 use crate::glyphs::glyph;
 use crate::words::push_text;
 use std::alloc::AllocError;
+
+/// How many bytes are tested at a time.
+const BLOCK: usize = 16;
 
 /// Whether a byte stands for itself in a text: a printable ASCII character that isn't `"` or `\`.
 #[tactic(auto, using(std::proofs::lemmas::Bool::Decides::nat_tests), unfolding(crate::specs::Escapes::is_plain))]
@@ -16,15 +19,47 @@ fn is_plain(byte: u8) -> bool
     byte >= b' ' && byte <= b'~' && byte != b'"' && byte != b'\\'
 }
 
-/// Where the run of bytes that stand for themselves ends, from `from` on.
-fn run_end(text: &[u8], from: usize) -> usize
+/// Whether the sixteen bytes from a place on all stand for themselves. No test ends the loop early, so that it
+/// becomes a few steps on all sixteen at once.
+#[inline(always)]
+fn are_plain(text: &[u8], from: usize) -> bool
+    requires { from + 16 ≤ length text.now }
+    ensures { IsTrue result → IsPlainFrom text.now from (from + 16) }
+{
+    let mut count = 0;
+    let mut plain = true;
+    while count < BLOCK {
+        plain = plain & is_plain(text[from + count]);
+        count += 1;
+    }
+    plain
+}
+
+/// A place up to which the bytes from `from` on stand for themselves, by whole blocks.
+#[inline(always)]
+fn plain_blocks(text: &[u8], from: usize) -> usize
     requires { from ≤ length text.now }
     ensures begins { from ≤ result }
     ensures within { result ≤ length text.now }
-    ensures run { escaped (drop from text.now) ≡ take (result - from) (drop from text.now)
-        ++ escaped (drop result text.now) }
+    ensures plain { IsPlainFrom text.now from result }
 {
     let mut end = from;
+    while text.len() - end >= BLOCK && are_plain(text, end) {
+        end += BLOCK;
+    }
+    end
+}
+
+/// Where the run of bytes that stand for themselves ends, from `from` on: at the first other byte, or at the
+/// end of the text.
+#[inline]
+pub fn plain_end(text: &[u8], from: usize) -> usize
+    requires { from ≤ length text.now }
+    ensures begins { from ≤ result }
+    ensures within { result ≤ length text.now }
+    ensures plain { IsPlainFrom text.now from result }
+{
+    let mut end = plain_blocks(text, from);
     while end < text.len() && is_plain(text[end]) {
         end += 1;
     }
@@ -52,7 +87,7 @@ pub fn push_escaped(out: &mut Vec<u8>, text: &[u8]) -> Result<(), AllocError>
 {
     let mut done = 0;
     while done < text.len() {
-        let end = run_end(text, done);
+        let end = plain_end(text, done);
         push_text(out, &text[done..end])?;
         if end == text.len() {
             return Ok(());

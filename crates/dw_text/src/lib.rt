@@ -16,7 +16,7 @@ mod whole;
 mod words;
 
 pub use bytes::{push_hex_bytes, push_hex_bytes_after};
-pub use escapes::{push_escaped, push_escaped_after};
+pub use escapes::{plain_end, push_escaped, push_escaped_after};
 pub use line_buffer::LineBuffer;
 pub use numbers::{
     push_decimal, push_decimal_after, push_hex, push_hex_after, push_signed, push_signed_after,

@@ -95,7 +95,7 @@ fn put_units(
     let mut size = 0;
     'units: for unit in 0..units.count() {
         text.clear();
-        match units.append_text(alloc, command, &arena, unit, &mut text) {
+        match units.put_text(alloc, command, &arena, unit, &mut text) {
             Ok(()) => {}
             Err(UnitRefusal::Refused(fault)) => {
                 return Ok(Put {

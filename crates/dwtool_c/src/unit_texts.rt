@@ -1,13 +1,14 @@
 //! The texts of units.
 
-ghost use Rattle.std.specs.Prelude.{◌≡◌, ◌<◌, IfOk, map};
+ghost use Rattle.std.specs.Prelude.{◌≡◌, ◌<◌, [], IfOk, OnErr};
 ghost use Rattle.elf_sections.specs.Shapes.{AreShort, sections_view};
-ghost use Rattle.entry_tree.specs.Units.{IsUnitOf, entries_of, facts_of};
-ghost use Rattle.entry_tree.specs.Views.{entry_view};
+ghost use Rattle.entry_tree.specs.Units.{IsUnitOf, facts_of};
 ghost use Rattle.dump_workers.specs.UnitDumps.{unit_dump};
 ghost use Rattle.unit_headers.specs.Headers.{unit_count};
 ghost use Rattle.unit_headers.specs.Refusals.{Answers};
 ghost use Rattle.unit_text.specs.Pieces.{Writes};
+ghost use Rattle.unit_text.specs.UnitStreams.{streamed_lists, streamed_unit};
+ghost use Rattle.unit_text.specs.UnitView.{unit_of};
 ghost use Rattle.dw_run.specs.Parts.{unit_part};
 ghost use Rattle.dw_run.specs.declared.parts.Part.TheVariants as parts;
 ghost use Rattle.dwtool_c.specs.Answers.{Ends, IsTold, on_unit_numbered};
@@ -17,50 +18,95 @@ use crate::answers::{Told, hand_out, told_of_unit};
 use crate::commands::{UnitCommand, unit_command};
 use crate::refusal::{DwtoolRefusal, file_refusal};
 use crate::units::read_index;
-use abbrev_decl::{Scanner, Steps};
+use abbrev_decl::Steps;
 use bumpalo::Bump;
 use dw_fields::Fault;
 use elf_sections::{Elf, OpenRefusal, Sections};
-use entry_tree::{Entry, read_entries, root_facts};
+use entry_tree::root_facts;
 use form_values::UnitFacts;
 use line_text::{LineTables, write_lines_with};
 use std::alloc::{AllocError, Global};
 use std::marker::Model;
 use unit_headers::{UnitHeader, UnitIndex, UnitRefusal};
-use unit_text::{LastLists, write_lists_with, write_unit, write_unit_line};
+use unit_text::{LastLists, stream_lists, stream_unit, write_unit_line};
+use walked_tables::TableWalker;
 
-/// What the first entry of a unit says of it.
-fn read_facts(sections: &Sections<'_>, header: &UnitHeader) -> Result<UnitFacts, Fault>
-    requires short { AreShort (sections_view sections.now) }
-    requires unit { IsUnitOf (sections_view sections.now) header.now }
-    ensures { result ≡ facts_of (sections_view sections.now) header.now }
-{
-    let mut scanner = Scanner::new(sections.abbrev);
-    let mut steps = Steps::start(());
-    root_facts(&mut scanner, header, sections, &mut steps)
-}
-
-/// All entries of a unit, in the arena.
-fn read_unit<'a, 'f: 'a>(
-    arena: &'a Bump,
+/// What the first entry of a unit says of it. Its declaration is found by this walker.
+fn read_facts<'f>(
+    walker: &mut TableWalker<'f>,
     sections: &Sections<'f>,
     header: &UnitHeader,
-) -> Result<&'a [Entry<'a>], UnitRefusal>
+) -> Result<UnitFacts, Fault>
+    requires walks { walker.old ≡ (sections_view sections.now).«abbrev» }
     requires short { AreShort (sections_view sections.now) }
     requires unit { IsUnitOf (sections_view sections.now) header.now }
-    ensures { Answers (λ entries. map entry_view entries.now) result
-        (entries_of (sections_view sections.entry.now) header.now) }
+    ensures facts { result ≡ facts_of (sections_view sections.now) header.now }
+    ensures walks { walker.new ≡ walker.old }
 {
-    let mut scanner = Scanner::new(sections.abbrev);
     let mut steps = Steps::start(());
-    read_entries(arena, &mut scanner, header, sections, &mut steps)
+    root_facts(walker, header, sections, &mut steps)
 }
 
-/// The units of a file, with the line table and the lists that were read last.
+/// Puts the text of a unit in the place of what `out` held. The declarations of its entries are found by this walker.
+fn put_unit_text<'a, 'f: 'a>(
+    alloc: Global,
+    arena: &'a Bump,
+    walker: &mut TableWalker<'f>,
+    sections: &Sections<'f>,
+    header: &UnitHeader,
+    facts: &UnitFacts,
+    out: &mut Vec<u8>,
+) -> Result<(), UnitRefusal>
+    requires walks { walker.old ≡ (sections_view sections.now).«abbrev» }
+    requires short { AreShort (sections_view sections.now) }
+    requires unit { IsUnitOf (sections_view sections.now) header.now }
+    ensures text { Answers (λ done. out.new.items) result
+        (streamed_unit (unit_of (sections_view sections.entry.now) header.now facts.now)) }
+    ensures empty { OnErr result (out.new.items ≡ []) }
+    ensures walks { walker.new ≡ walker.old }
+{
+    let mut steps = Steps::start(());
+    match stream_unit(
+        alloc, arena, walker, header, sections, facts, out, &mut steps,
+    ) {
+        Ok(_) => Ok(()),
+        Err(refusal) => Err(refusal),
+    }
+}
+
+/// Appends the lists of a unit. The declarations of its entries are found by this walker.
+fn write_unit_lists<'a, 'f: 'a>(
+    alloc: Global,
+    arena: &'a Bump,
+    walker: &mut TableWalker<'f>,
+    lists: &mut LastLists<'f>,
+    sections: &Sections<'f>,
+    header: &UnitHeader,
+    facts: &UnitFacts,
+    out: &mut Vec<u8>,
+) -> Result<(), UnitRefusal>
+    requires walks { walker.old ≡ (sections_view sections.now).«abbrev» }
+    requires lists { lists.old ≡ sections_view sections.now }
+    requires short { AreShort (sections_view sections.now) }
+    requires unit { IsUnitOf (sections_view sections.now) header.now }
+    ensures text { Writes result out.old.items out.new.items
+        (streamed_lists (unit_of (sections_view sections.entry.now) header.now facts.now)) }
+    ensures walks { walker.new ≡ walker.old }
+    ensures lists { lists.new ≡ lists.old }
+{
+    let mut steps = Steps::start(());
+    stream_lists(
+        alloc, lists, arena, walker, header, sections, facts, out, &mut steps,
+    )
+}
+
+/// The units of a file, with the line table and the lists that were read last, and how far the declarations of
+/// the last unit were walked.
 #[derive(Drop)]
 pub(crate) struct FileUnits<'f> {
     sections: Sections<'f>,
     index: UnitIndex<'f>,
+    walker: TableWalker<'f>,
     tables: LineTables<'f>,
     lists: LastLists<'f>,
 }
@@ -76,7 +122,8 @@ impl<'f> Model for FileUnits<'f> {
 
     ghost invariant = { λ u. AreShort (sections_view u.sections)
         × (u.index ≡ units_of (sections_view u.sections))
-        × (u.tables ≡ sections_view u.sections) × (u.lists ≡ sections_view u.sections) };
+        × (u.tables ≡ sections_view u.sections) × (u.lists ≡ sections_view u.sections)
+        × (u.walker ≡ (sections_view u.sections).«abbrev») };
 }
 
 impl<'f> FileUnits<'f> {
@@ -89,6 +136,7 @@ impl<'f> FileUnits<'f> {
         Ok(FileUnits {
             sections: *sections,
             index,
+            walker: TableWalker::new(alloc, sections.abbrev),
             tables: LineTables::new(sections),
             lists: LastLists::new(sections),
         })
@@ -101,11 +149,12 @@ impl<'f> FileUnits<'f> {
         self.index.count()
     }
 
-    /// Appends what a command prints of a unit. The unit's entries lie in the arena.
+    /// Puts what a command prints of a unit into `out`, which is empty. The declarations of the unit's entries lie in
+    /// the arena.
     ///
     /// # Errors
-    /// The first fault of the unit, or want of memory; `out` is then as it was.
-    pub(crate) fn append_text(
+    /// The first fault of the unit, or want of memory; `out` is then empty.
+    pub(crate) fn put_text(
         &mut self,
         alloc: Global,
         command: UnitCommand,
@@ -113,14 +162,15 @@ impl<'f> FileUnits<'f> {
         unit: u32,
         out: &mut Vec<u8>,
     ) -> Result<(), UnitRefusal>
-        requires { unit < unit_count self.old.info self.old.order }
+        requires unit { unit < unit_count self.old.info self.old.order }
+        requires empty { out.old.items ≡ [] }
         ensures text { Writes result out.old.items out.new.items
             (unit_text command self.old unit) }
         ensures same { self.new ≡ self.old }
     {
         match command {
             UnitCommand::Units => self.append_line(alloc, unit, out),
-            UnitCommand::Dump => self.append_entries(alloc, arena, unit, out),
+            UnitCommand::Dump => self.put_entries(alloc, arena, unit, out),
             UnitCommand::Lines => self.append_lines(alloc, unit, out),
             UnitCommand::Ranges => self.append_lists(alloc, arena, unit, out),
         }
@@ -137,22 +187,31 @@ impl<'f> FileUnits<'f> {
         Ok(write_unit_line(alloc, &header, out)?)
     }
 
-    /// Appends a unit with its entries, which lie in the arena.
-    #[tactic(auto, unfolding(dump_workers::specs::UnitDumps::unit_dump))]
-    fn append_entries(
-        &self,
+    /// Puts the text of a unit with its entries into `out`, which is empty.
+    #[tactic(auto, unfolding(dump_workers::specs::UnitDumps::unit_dump, unit_text::specs::UnitStreams::streamed_unit))]
+    fn put_entries(
+        &mut self,
         alloc: Global,
         arena: &Bump,
         unit: u32,
         out: &mut Vec<u8>,
     ) -> Result<(), UnitRefusal>
-        requires { unit < unit_count self.now.info self.now.order }
-        ensures { Writes result out.old.items out.new.items (unit_dump self.now unit) }
+        requires unit { unit < unit_count self.old.info self.old.order }
+        requires empty { out.old.items ≡ [] }
+        ensures text { Writes result out.old.items out.new.items (unit_dump self.old unit) }
+        ensures same { self.new ≡ self.old }
     {
         let header = self.index.header(unit)?;
-        let facts = read_facts(&self.sections, &header)?;
-        let entries = read_unit(arena, &self.sections, &header)?;
-        write_unit(alloc, &header, entries, &self.sections, &facts, out)
+        let facts = read_facts(&mut self.walker, &self.sections, &header)?;
+        put_unit_text(
+            alloc,
+            arena,
+            &mut self.walker,
+            &self.sections,
+            &header,
+            &facts,
+            out,
+        )
     }
 
     /// Appends the line table of a unit.
@@ -169,12 +228,12 @@ impl<'f> FileUnits<'f> {
         ensures same { self.new ≡ self.old }
     {
         let header = self.index.header(unit)?;
-        let facts = read_facts(&self.sections, &header)?;
+        let facts = read_facts(&mut self.walker, &self.sections, &header)?;
         write_lines_with(alloc, &mut self.tables, &header, &facts, out)
     }
 
-    /// Appends the range lists and location lists of a unit, whose entries lie in the arena.
-    #[tactic(auto, unfolding(dw_run::specs::Parts::unit_part, dw_run::specs::Parts::part_of, dw_run::specs::Parts::facts_and_entries))]
+    /// Appends the range lists and location lists of a unit, whose declarations lie in the arena.
+    #[tactic(auto, unfolding(dw_run::specs::Parts::unit_part, dw_run::specs::Parts::part_of))]
     fn append_lists(
         &mut self,
         alloc: Global,
@@ -188,9 +247,17 @@ impl<'f> FileUnits<'f> {
         ensures same { self.new ≡ self.old }
     {
         let header = self.index.header(unit)?;
-        let facts = read_facts(&self.sections, &header)?;
-        let entries = read_unit(arena, &self.sections, &header)?;
-        write_lists_with(alloc, &mut self.lists, &header, &facts, entries, out)
+        let facts = read_facts(&mut self.walker, &self.sections, &header)?;
+        write_unit_lists(
+            alloc,
+            arena,
+            &mut self.walker,
+            &mut self.lists,
+            &self.sections,
+            &header,
+            &facts,
+            out,
+        )
     }
 }
 
@@ -206,7 +273,7 @@ fn read_text(
 {
     let arena = Bump::new(alloc);
     let mut text = Vec::new(alloc);
-    units.append_text(alloc, command, &arena, unit, &mut text)?;
+    units.put_text(alloc, command, &arena, unit, &mut text)?;
     Ok(text)
 }
 

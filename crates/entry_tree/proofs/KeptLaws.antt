@@ -65,7 +65,7 @@ abbrev on_entry : (ℕ → Bool) → Result (ℕ × EntryView) Fault → Result 
 on_entry keeps (Ok read) = Ok (read.0, kept_entry keeps read.1)
 on_entry keeps (Err f) = Err f
 
-abbrev on_step : (ℕ → Bool) → Result ((ℕ × List EntryView) × ℕ) Fault → Result ((ℕ × List EntryView) × ℕ) Fault
+abbrev pub on_step : (ℕ → Bool) → Result ((ℕ × List EntryView) × ℕ) Fault → Result ((ℕ × List EntryView) × ℕ) Fault
 on_step keeps (Ok read) = Ok ((read.0.0, map (kept_entry keeps) read.0.1), read.1)
 on_step keeps (Err f) = Err f
 

@@ -86,3 +86,17 @@ RootPlaces-gains section table old new (Ok (Some root)) placed =
     (λ found. record { code = root.code; has = refl; small = found.0; is = refl }) placed
 RootPlaces-gains section table old new (Ok None) same = rw same (GainsOnly-same (IsRootKeyOf table (Ok None)) old)
 RootPlaces-gains section table old new (Err f) same = rw same (GainsOnly-same (IsRootKeyOf table (Err f)) old)
+
+-- entries more
+
+pub keys_next : (table : ℕ) (front more both : List EntryView) (a b c : List ℕ) → both ≡ front ++ more
+    → GainsOnly (IsKeyAmong table front) a b → GainsOnly (IsKeyAmong table more) b c → GainsOnly (IsKeyAmong table both) a c
+keys_next table front more both a b c added p q =
+    rw added (GainsOnly-then (IsKeyAmong table (front ++ more)) a b c
+    (GainsOnly-weaker (IsKeyAmong table front) (IsKeyAmong table (front ++ more)) a b (λ k. IsKeyAmong-front table front more k) p)
+    (GainsOnly-weaker (IsKeyAmong table more) (IsKeyAmong table (front ++ more)) b c (λ k. IsKeyAmong-back table front more k) q))
+
+pub noted_next : (table : ℕ) (front more both : List EntryView) (seen later : List ℕ) (spent now : Bool) → both ≡ front ++ more
+    → Extends seen later → (spent ≡ true → now ≡ true) → KeysNoted seen spent table front → KeysNoted later now table more → KeysNoted later now table both
+noted_next table front more both seen later spent now added grown stays p q =
+    rw added (KeysNoted-append later now table front more (KeysNoted-later seen later spent now table front grown stays p) q)

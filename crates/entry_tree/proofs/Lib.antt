@@ -1,8 +1,10 @@
-pub mod AreaSteps
+pub mod BatchLaws
+pub mod CursorLaws
 pub mod FirstCode
 pub mod KeptLaws
 pub mod KeyLaws
 pub mod MemoLaws
 pub mod RootLaws
 pub mod RootSteps
+pub mod TakenLaws
 pub mod TileLaws

@@ -48,7 +48,7 @@ past_one s (Ok read) past = past.0
 past_one s (Err f) past = tt
 
 -- an entry, or a code 0, takes at least one byte
-entry_ahead : (section : List ℕ) (table : ℕ) (widths : Widths) (depth : ℕ) (s : Span) → Onwards (s.place + 1) (entry_at section table widths depth s)
+pub entry_ahead : (section : List ℕ) (table : ℕ) (widths : Widths) (depth : ℕ) (s : Span) → Onwards (s.place + 1) (entry_at section table widths depth s)
 unfolding entry_at
 entry_ahead section table widths depth s =
     Onwards-then (s.place + 1) (uleb_at s) _ (past_one s (uleb_at s) (uleb_at-past s))

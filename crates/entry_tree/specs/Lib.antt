@@ -6,4 +6,6 @@ pub mod Facts
 pub mod Tiles
 pub mod RootValues
 pub mod Remembered
+pub mod Batches
+pub mod Taken
 pub mod Units

@@ -1,9 +1,8 @@
 -- How a contract sees entries and their attributes: without where they lie in memory.
-use Rattle.std.specs.Prelude.{ℕ, List, map, option_map, option_to_list}
+use Rattle.std.specs.Prelude.{ℕ, List, map}
 use Rattle.form_values.specs.View.{RawView, raw_view}
 use Rattle.entry_tree.specs.declared.entry.Attr.{Attr}
 use Rattle.entry_tree.specs.declared.entry.Entry.{Entry}
-use Rattle.entry_tree.specs.declared.entry.Stepped.{Stepped}
 
 pub record AttrView : Type 0 where
   pub name : ℕ
@@ -30,10 +29,3 @@ entry_view e =
       tag = e.tag;
       attrs = map attr_view e.attrs.now;
     }
-
--- what one code gave: the entry, if it isn't 0
-abbrev pub stepped_entries : Stepped → List EntryView
-stepped_entries s = option_to_list (option_map entry_view s.entry)
-
-abbrev pub stepped_view : Stepped → ℕ × List EntryView
-stepped_view s = (s.depth, stepped_entries s)

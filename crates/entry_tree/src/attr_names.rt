@@ -13,8 +13,8 @@ pub trait AttrNames {
     fn keeps(name: u64) -> bool
         ensures { result ≡ keeps name };
 
-    /// For how many attributes there is to be room at first, in an entry with these pairs. It is a matter
-    /// of speed alone.
+    /// For how many attributes there is to be room at first, in an entry with these pairs; a cursor counts an
+    /// entry's attributes so, too. It is a matter of speed alone.
     fn room(pairs: &Attrs<'_>) -> usize;
 }
 

@@ -30,9 +30,15 @@ pub struct Entry<'a> {
     pub attrs: &'a [Attr<'a>],
 }
 
-/// What one code gave: the depth behind it, and the entry, if the code isn't 0.
+/// What stands before the attributes of an entry, or is told by its declaration.
 #[derive(Clone, Copy, Debug)]
-pub(crate) struct Stepped<'a> {
+pub struct EntryHead {
+    /// The place of its code in `.debug_info`.
+    pub place: u64,
+    /// How many entries it stands below; 0 for the unit's root.
     pub depth: u32,
-    pub entry: Option<Entry<'a>>,
+    /// The code of its declaration, never 0.
+    pub code: u64,
+    /// The declaration's tag.
+    pub tag: u64,
 }

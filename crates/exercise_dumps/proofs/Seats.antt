@@ -12,7 +12,7 @@ use Rattle.map_cells.specs.Seen.{PassView}
 use Rattle.handle_cache.specs.Handles.{front_keys, is_spent}
 use Rattle.dump_workers.specs.FileKeys.{HasSmallCodes, KnowsFile, RefusesNone}
 use Rattle.dump_workers.specs.Passes.{EachAtZero, EachHasFront}
-use Rattle.dump_workers.specs.Seats.{DumpSeatView, EachReads}
+use Rattle.dump_workers.specs.Seats.{DumpSeatView, EachCounts}
 use Rattle.dump_workers.specs.TableKeys.{HoldsFile, table_keys}
 use Rattle.dump_workers.proofs.KeyLists.{size_held}
 
@@ -44,13 +44,13 @@ each_knows s front [] knows fronts = tt
 each_knows s front (seat ∷ seats) knows fronts =
     (subst (λ (es : List Entry). KnowsFile s (map (λ (e : Entry). e.key) es)) (sym fronts.0) knows, each_knows s front seats knows fronts.1)
 
-still_zero : (s : SectionsView) (xs ys : List DumpSeatView) → EachReads s xs ys → RefusesNone s → EachKnows s xs → EachAtZero xs → EachAtZero ys
-still_zero s [] [] reads none knows zero = tt
-still_zero s [] (y ∷ ys) reads none knows zero = absurd reads
-still_zero s (x ∷ xs) [] reads none knows zero = absurd reads
-still_zero s (x ∷ xs) (y ∷ ys) reads none knows zero = (reads.0.counts none knows.0 ∙ zero.0, still_zero s xs ys reads.1 none knows.1 zero.1)
+still_zero : (s : SectionsView) (xs ys : List DumpSeatView) → EachCounts s xs ys → RefusesNone s → EachKnows s xs → EachAtZero xs → EachAtZero ys
+still_zero s [] [] counts none knows zero = tt
+still_zero s [] (y ∷ ys) counts none knows zero = absurd counts
+still_zero s (x ∷ xs) [] counts none knows zero = absurd counts
+still_zero s (x ∷ xs) (y ∷ ys) counts none knows zero = (counts.0.counts none knows.0 ∙ zero.0, still_zero s xs ys counts.1 none knows.1 zero.1)
 
 -- where the pass knew the file, no seat that was split off it makes a step
-pub no_steps : (s : SectionsView) (p : PassView) (xs ys : List DumpSeatView) → EachReads s xs ys → RefusesNone s → EachHasFront p.knows.front xs → EachAtZero xs
+pub no_steps : (s : SectionsView) (p : PassView) (xs ys : List DumpSeatView) → EachCounts s xs ys → RefusesNone s → EachHasFront p.knows.front xs → EachAtZero xs
     → KnowsFile s (front_keys p) → EachAtZero ys
-no_steps s p xs ys reads none fronts zero knows = still_zero s xs ys reads none (each_knows s p.knows.front xs knows fronts) zero
+no_steps s p xs ys counts none fronts zero knows = still_zero s xs ys counts none (each_knows s p.knows.front xs knows fronts) zero

@@ -7,7 +7,7 @@ use Rattle.dw_fields.specs.declared.fault_code.Code.{Code}
 use Rattle.entry_tree.specs.Entries.{depth_behind}
 use Rattle.form_values.specs.Resolved.{address_of, list_of, text_from, text_in, text_of}
 use Rattle.unit_text.specs.Pieces.{Text, joined, texts_of}
-use Rattle.unit_text.specs.Units.{attr_text, attrs_text, entries_text, entry_text, read_unit_text}
+use Rattle.unit_text.specs.Units.{attr_text, attrs_text, entries_text, entry_text, read_unit_text, value_line}
 use Rattle.unit_text.specs.UnitView.{UnitView, unit_of}
 use Rattle.unit_text.specs.Values.{address_value, list_value, resolved, text_value, value_text}
 use Rattle.built_files.specs.Places.{lies_inside}
@@ -60,7 +60,7 @@ module _ (u : UnitView) where
   value_ok place Present r = refl
 
   attrs_ok : (place : ℕ) (attrs : List Written) → AllResolve u attrs → IsOk (attrs_text u (attrs_seen place attrs))
-  unfolding attrs_text texts_of attr_text
+  unfolding attrs_text texts_of attr_text value_line
   attrs_ok place [] r = refl
   attrs_ok place (a ∷ attrs) r =
       joined_ok _ _ (joined_ok _ _ refl (joined_ok _ _ (value_ok place a.value r.0) refl)) (attrs_ok (place + size_of a.value) attrs r.1)

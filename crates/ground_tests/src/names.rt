@@ -1,7 +1,9 @@
 //! Each call of `dw_names` once, with names of the public standard.
 use dw_names::{
-    attribute_name, form_name, push_attribute_after, push_form_after, push_tag_after, tag_name,
+    attribute_name, form_name, prepend_attribute_after, prepend_tag_after, push_attribute_after,
+    push_form_after, push_tag_after, tag_name,
 };
+use dw_text::LineBuffer;
 use std::test::Fail;
 
 #[test]
@@ -23,5 +25,19 @@ fn names_and_numbers(rt: HostRuntime) -> Result<(), Fail> {
     assert!(rt; tag_name(0x06).is_none());
     assert!(rt; attribute_name(0x26).is_none());
     assert!(rt; form_name(0x02).is_none());
+    Ok(())
+}
+
+#[test]
+fn names_before_what_stands(rt: HostRuntime) -> Result<(), Fail> {
+    let mut line = LineBuffer::new();
+    prepend_tag_after(&mut line, b" ", 0x4080);
+    prepend_tag_after(&mut line, b" ", 0x30);
+    prepend_attribute_after(&mut line, b" ", 0x70);
+    prepend_attribute_after(&mut line, b"", 0x2000);
+    assert_eq!(rt;
+        line.text(),
+        b"0x2000 string_length_byte_size template_value_parameter 0x4080".as_slice()
+    );
     Ok(())
 }

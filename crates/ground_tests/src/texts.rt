@@ -1,7 +1,7 @@
 //! Each call of `dw_text` once, with texts that were written by hand.
 use dw_text::{
-    LineBuffer, push_decimal, push_decimal_after, push_escaped, push_escaped_after, push_hex,
-    push_hex_after, push_hex_bytes, push_hex_bytes_after, push_signed, push_signed_after,
+    LineBuffer, plain_end, push_decimal, push_decimal_after, push_escaped, push_escaped_after,
+    push_hex, push_hex_after, push_hex_bytes, push_hex_bytes_after, push_signed, push_signed_after,
     push_sixteen, push_sixteen_after, push_text, push_text_after,
 };
 use std::test::Fail;
@@ -76,5 +76,45 @@ fn a_line_from_its_end(rt: HostRuntime) -> Result<(), Fail> {
     );
     line.clear();
     assert_eq!(rt; line.text(), b"".as_slice());
+    line.prepend_sixteen_after(b" 0x", 0x123456789abcdef0);
+    line.prepend_signed_after(b" ", -9223372036854775808);
+    line.prepend_signed_after(b" ", 9223372036854775807);
+    line.prepend_signed_after(b"", -1);
+    assert_eq!(rt;
+        line.text(),
+        b"-1 9223372036854775807 -9223372036854775808 0x123456789abcdef0".as_slice()
+    );
+    Ok(())
+}
+
+#[test]
+fn pieces_of_a_fixed_length_and_bytes_in_a_line(rt: HostRuntime) -> Result<(), Fail> {
+    let mut line = LineBuffer::new();
+    line.prepend_hex_bytes_after(b" ", b"");
+    line.prepend_hex_bytes_after(b" ", b"\x00\x9f\xff");
+    line.prepend_last(b"..............................ab", 2);
+    line.prepend_hex_after(b"0x", 0x100);
+    line.prepend_last(b"................................", 0);
+    line.prepend_hex_after(b"0x", 0x10);
+    line.prepend_hex_after(b"0x", 0xf);
+    line.prepend_last(b"0123456789abcdef0123456789abcde ", 32);
+    assert_eq!(rt;
+        line.text(),
+        b"0123456789abcdef0123456789abcde 0xf0x100x100ab 009fff ".as_slice()
+    );
+    Ok(())
+}
+
+#[test]
+fn runs_of_plain_bytes(rt: HostRuntime) -> Result<(), Fail> {
+    let text = b"0123456789abcdef0123456789abcdef~\\\x00 \"";
+    assert_eq!(rt; plain_end(text, 0), 33);
+    assert_eq!(rt; plain_end(text, 20), 33);
+    assert_eq!(rt; plain_end(text, 33), 33);
+    assert_eq!(rt; plain_end(text, 35), 36);
+    assert_eq!(rt; plain_end(text, 37), 37);
+    assert_eq!(rt; plain_end(b"0123456789abcde\x7f", 0), 15);
+    assert_eq!(rt; plain_end(b"0123456789abcdef", 0), 16);
+    assert_eq!(rt; plain_end(b"", 0), 0);
     Ok(())
 }

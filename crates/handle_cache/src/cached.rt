@@ -1,6 +1,6 @@
 //! Declarations as they are found through the table (DWARF 5 section 7.5.3).
 
-ghost use Rattle.std.specs.Prelude.{◌≡◌, ◌+◌, ◌<◌, ◌≤◌, ◌^◌, IfOk, IfSome, IsOk, IsSome, OnOk, Ok, Contains, length};
+ghost use Rattle.std.specs.Prelude.{◌≡◌, ◌⊎◌, ◌+◌, ◌<◌, ◌≤◌, ◌^◌, IfOk, IfSome, IsOk, IsSome, OnOk, Ok, Contains, length};
 ghost use Rattle.abbrev_decl.specs.Declarations.{StandsInside};
 ghost use Rattle.abbrev_decl.specs.Lookup.{IsSmallFound, Notes, PlacesAtMost, first_declaration, key};
 ghost use Rattle.map_core.specs.Machine.{IsWord};
@@ -55,7 +55,9 @@ impl<'h, 'f> Decls<'f> for Cached<'h, 'f> {
         code: u64,
         steps: &mut Steps<L>,
     ) -> Result<Decl<'f>, FindFault> {
-        self.handle.declaration(self.pass, table, code, steps)
+        let mut scanner = Scanner::new(self.handle.declarations());
+        self.handle
+            .declaration(self.pass, &mut scanner, table, code, steps)
     }
 
     ghost reflexive = { λ x. (refl, keeps_same x.handle.now x.pass.now) };
@@ -81,22 +83,25 @@ fn declaration_key(table: u32, code: u64) -> u64
 }
 
 impl<'f> Handle<'f> {
-    /// The first declaration with this code, walking from `table`.
-    pub(crate) fn declaration<L>(
+    /// The first declaration with this code, walking from `table`. Where the table doesn't have it, this source
+    /// walks to it.
+    pub(crate) fn declaration<W: Decls<'f>, L>(
         &self,
         pass: &mut HandlePass<'f>,
+        walk: &mut W,
         table: u32,
         code: u64,
         steps: &mut Steps<L>,
     ) -> Result<Decl<'f>, FindFault>
         requires belongs { Belongs self.now pass.old }
+        requires section { W.section walk.old ≡ (sections_in self.now).«abbrev» }
         requires inside { table ≤ length (sections_in self.now).«abbrev» }
         requires some { 0 < code }
         ensures answer { result ≡ first_declaration (sections_in self.now).«abbrev» table code }
         ensures belongs { Belongs self.now pass.new }
         ensures follows { Follows pass.old pass.new }
-        ensures counted { CountsWalk (sections_in self.now).«abbrev» table code
-            steps.old steps.new }
+        ensures walk { W.follows walk.old walk.new }
+        ensures counted { (steps.new ≡ steps.old) ⊎ W.counts walk.old table code steps.old steps.new }
         ensures never_less { steps.old ≤ steps.new }
         ensures known { code < 2 ^ 32 → Contains (front_keys pass.old) (key table code)
             → steps.new ≡ steps.old }
@@ -106,14 +111,13 @@ impl<'f> Handle<'f> {
             → OnOk result (Notes (front_keys pass.new) (is_spent pass.new) (key table code)) }
     {
         if code < CODE_LIMIT {
-            return self.small_declaration(pass, table, code, steps);
+            return self.small_declaration(pass, walk, table, code, steps);
         }
-        let mut scanner = Scanner::new(self.declarations());
-        scanner.find(table, code, steps)
+        walk.find(table, code, steps)
     }
 
     /// The bytes of `.debug_abbrev`.
-    fn declarations(&self) -> &'f [u8]
+    pub(crate) fn declarations(&self) -> &'f [u8]
         ensures { result.now ≡ (sections_in self.now).«abbrev» }
     {
         self.sections.abbrev
@@ -129,22 +133,24 @@ impl<'f> Handle<'f> {
     }
 
     /// The same for a code that may be in the table.
-    fn small_declaration<L>(
+    fn small_declaration<W: Decls<'f>, L>(
         &self,
         pass: &mut HandlePass<'f>,
+        walk: &mut W,
         table: u32,
         code: u64,
         steps: &mut Steps<L>,
     ) -> Result<Decl<'f>, FindFault>
         requires belongs { Belongs self.now pass.old }
+        requires section { W.section walk.old ≡ (sections_in self.now).«abbrev» }
         requires inside { table ≤ length (sections_in self.now).«abbrev» }
         requires some { 0 < code }
         requires small { code < 2 ^ 32 }
         ensures answer { result ≡ first_declaration (sections_in self.now).«abbrev» table code }
         ensures belongs { Belongs self.now pass.new }
         ensures follows { Follows pass.old pass.new }
-        ensures counted { CountsWalk (sections_in self.now).«abbrev» table code
-            steps.old steps.new }
+        ensures walk { W.follows walk.old walk.new }
+        ensures counted { (steps.new ≡ steps.old) ⊎ W.counts walk.old table code steps.old steps.new }
         ensures never_less { steps.old ≤ steps.new }
         ensures known { Contains (front_keys pass.old) (key table code) → steps.new ≡ steps.old }
         ensures placed { PlacesAtMost (own_keys pass.old) (own_keys pass.new) (key table code)
@@ -155,8 +161,7 @@ impl<'f> Handle<'f> {
         match self.find_place(pass, table, code) {
             Some(value) => Ok(self.declaration_there(table, code, value)),
             None => {
-                let mut scanner = Scanner::new(self.declarations());
-                let found = scanner.find(table, code, steps);
+                let found = walk.find(table, code, steps);
                 if let Ok(declaration) = &found {
                     self.keep_declaration(pass, table, code, declaration);
                 }

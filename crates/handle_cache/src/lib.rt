@@ -10,6 +10,7 @@
 #![tactic(auto)]
 
 mod cached;
+mod cached_walk;
 mod facts;
 mod handle;
 mod laws;
@@ -18,5 +19,6 @@ mod units;
 mod words;
 
 pub use cached::Cached;
+pub use cached_walk::CachedWalk;
 pub use facts::{FileFacts, HandlePass};
 pub use handle::Handle;

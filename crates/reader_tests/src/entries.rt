@@ -1,14 +1,14 @@
 //! A unit with a root and two more entries, and the same unit with wrong bytes.
 
-use crate::small_file::sections_of;
+use crate::small_file::{HEADER, sections_of};
 use abbrev_decl::{Scanner, Steps};
 use bumpalo::Bump;
 use dw_fields::{Code, Fault};
-use entry_tree::{read_entries, root_facts};
+use entry_tree::{AllAttrs, EntryBatch, EntryCursor, read_entries, root_facts};
 use form_values::Raw;
 use std::alloc::Global;
 use std::test::Fail;
-use unit_headers::{Extra, UnitHeader, UnitKind, UnitRefusal};
+use unit_headers::UnitRefusal;
 
 /// Code 1: compile_unit with children, a name as string and a line offset of one byte twice. Code 2:
 /// variable, a name as string and an implicit file.
@@ -25,19 +25,6 @@ const INFO: [u8; 96] = [
     0, 0, 0, 0, 0, 0, 0, 0, 0, 0, 0, 0, 0, 0, 0, 0, 0, 0, 0, 0, 0, 0, 0, 0, 0, 0, 0, 0, 0, 0, 0, 0,
     0, 0, 0, 0, 0, 0, 0, 0, 0, 0,
 ];
-
-const HEADER: UnitHeader = UnitHeader {
-    number: 0,
-    place: 0,
-    end: 25,
-    wide: false,
-    version: 5,
-    kind: UnitKind::Compile,
-    address_size: 8,
-    abbrev: 0,
-    entries: 12,
-    extra: Extra::Nothing,
-};
 
 /// The refusal of the unit with one byte of `.debug_info` changed.
 fn refusal_with(alloc: Global, place: usize, value: u8) -> Option<UnitRefusal> {
@@ -117,6 +104,82 @@ fn a_declaration_is_walked_to_once(rt: HostRuntime) -> Result<(), Fail> {
     }
     assert_eq!(rt; steps.count(), 3);
     Ok(())
+}
+
+/// Whether a batch has one entry, with that place, that depth and so many attributes.
+fn is_entry(batch: &EntryBatch<'_, '_>, place: u64, depth: u32, attrs: usize) -> bool {
+    if batch.len() != 1 {
+        return false;
+    }
+    let entry = batch.entry(0);
+    entry.place == place && entry.depth == depth && entry.attrs.len() == attrs
+}
+
+/// One entry a call: between the calls the cursor keeps its place and its depth, and a zero code is no entry.
+#[test]
+fn a_cursor_goes_on_where_it_stopped(rt: HostRuntime) -> Result<(), Fail> {
+    let info = INFO;
+    let abbrev = ABBREV;
+    let sections = sections_of(&info, &abbrev);
+    let arena = Bump::new(rt.alloc());
+    let mut scanner = Scanner::new(&abbrev);
+    let mut steps = Steps::start(());
+    let mut cursor = EntryCursor::new(&arena, &HEADER, &sections);
+    let mut batch = EntryBatch::new(&arena);
+    let want = [(13, 0, 3), (18, 1, 2), (22, 0, 2)];
+    let mut calls: usize = 0;
+    'batches: while !cursor.is_at_end() {
+        batch.clear();
+        let read = cursor.read_into::<_, AllAttrs, _, _>(
+            &mut scanner,
+            &mut batch,
+            Some(1),
+            &mut steps,
+        );
+        match read {
+            Ok(()) => {}
+            Err(_) => return Err(Fail::from("refused")),
+        }
+        let Some((place, depth, attrs)) = want.get(calls) else {
+            return Err(Fail::from("a fourth entry"));
+        };
+        assert!(rt; is_entry(&batch, *place, *depth, *attrs));
+        calls = calls.saturating_add(1);
+    }
+    assert_eq!(rt; calls, 3);
+    assert_eq!(rt; steps.count(), 5);
+    Ok(())
+}
+
+/// How many entries the first call of a cursor gives.
+fn entries_of_a_call(alloc: Global, most: Option<u64>) -> Option<usize> {
+    let info = INFO;
+    let abbrev = ABBREV;
+    let sections = sections_of(&info, &abbrev);
+    let arena = Bump::new(alloc);
+    let mut scanner = Scanner::new(&abbrev);
+    let mut steps = Steps::start(());
+    let mut cursor = EntryCursor::new(&arena, &HEADER, &sections);
+    let mut batch = EntryBatch::new(&arena);
+    match cursor.read_into::<_, AllAttrs, _, _>(&mut scanner, &mut batch, most, &mut steps) {
+        Ok(()) => Some(batch.len()),
+        Err(_) => None,
+    }
+}
+
+/// The entries count 4, 3 and 3 with their attributes; the zero codes before "a" and before "c" count nothing.
+#[test]
+fn a_cursor_counts_entries_and_attributes_together(rt: HostRuntime) {
+    for (most, entries) in [
+        (Some(0), 1),
+        (Some(4), 1),
+        (Some(5), 2),
+        (Some(7), 2),
+        (Some(8), 3),
+        (None, 3),
+    ] {
+        assert_eq!(rt; entries_of_a_call(rt.alloc(), most), Some(entries));
+    }
 }
 
 #[test]

@@ -1,4 +1,4 @@
-//! Tests of the readers, over small sections that were written by hand.
+//! Tests of the readers and of the texts of units, over small sections that were written by hand.
 //!
 //! The clauses of the readers say what each call answers. The tests show what no clause can: that a call
 //! succeeds where memory is ample, with the answers of the worked examples. They stand in a crate of their
@@ -19,3 +19,5 @@ mod queries;
 mod sections;
 #[cfg(test)]
 mod small_file;
+#[cfg(test)]
+mod unit_texts;

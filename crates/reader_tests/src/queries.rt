@@ -15,10 +15,10 @@ use visit_queries::{
 /// Code 1: compile_unit with children and a name. Code 2: variable with a name and an implicit file.
 /// Code 3: variable with a name in `.debug_str`. Code 4: subprogram whose first name is a number and whose
 /// second is a text. Code 5: subprogram with two names. Code 6: base_type with a name.
-const ABBREV: [u8; 49] = [
+const ABBREV: [u8; 50] = [
     0x01, 0x11, 0x01, 0x03, 0x08, 0, 0, 0x02, 0x34, 0, 0x03, 0x08, 0x3a, 0x21, 0x7f, 0, 0, 0x03,
     0x34, 0, 0x03, 0x0e, 0, 0, 0x04, 0x2e, 0, 0x03, 0x0b, 0x03, 0x08, 0, 0, 0x05, 0x2e, 0, 0x03,
-    0x08, 0x03, 0x08, 0, 0, 0x06, 0x24, 0, 0x03, 0x08, 0, 0,
+    0x08, 0x03, 0x08, 0, 0, 0x06, 0x24, 0, 0x03, 0x08, 0, 0, 0,
 ];
 
 /// The root "a" at 0xc, and below it the variables "b" at 0xf and "c" at 0x12.
@@ -36,6 +36,12 @@ const THEN_VERSION_6: [u8; 34] = [
 const NAME_IN_NO_SECTION: [u8; 24] = [
     0x14, 0, 0, 0, 0x05, 0, 0x01, 0x08, 0, 0, 0, 0, 0x01, 0x61, 0, 0x02, 0x62, 0, 0x03, 0, 0, 0, 0,
     0,
+];
+
+/// The same up to the name in the absent `.debug_str`, and at 0x17 the code 7, which no declaration has.
+const THEN_NO_DECLARATION: [u8; 24] = [
+    0x14, 0, 0, 0, 0x05, 0, 0x01, 0x08, 0, 0, 0, 0, 0x01, 0x61, 0, 0x02, 0x62, 0, 0x03, 0, 0, 0, 0,
+    0x07,
 ];
 
 /// The root "a", at 0xf a function whose first name is 7 and whose second is "d", at 0x13 a function
@@ -159,6 +165,16 @@ fn refusals_have_their_units_and_places(rt: HostRuntime) -> Result<(), Fail> {
     let first: Box<dyn Visitor> = Box::new(alloc, first).expect(&rt, "a box");
     let stop = report_of(alloc, &NAME_IN_NO_SECTION, first).err();
     assert_eq!(rt; stop, Some(fault_in(0, Code::NoSection, 0x13)));
+    Ok(())
+}
+
+/// The unit is read to its end before a name is refused.
+#[test]
+fn the_reading_is_refused_before_a_name(rt: HostRuntime) -> Result<(), Fail> {
+    let alloc = rt.alloc();
+    let all: Box<dyn Visitor> = Box::new(alloc, Variables::new(alloc, 9)).expect(&rt, "a box");
+    let stop = report_of(alloc, &THEN_NO_DECLARATION, all).err();
+    assert_eq!(rt; stop, Some(fault_in(0, Code::CodeMissing, 0x17)));
     Ok(())
 }
 

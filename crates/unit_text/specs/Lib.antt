@@ -9,3 +9,5 @@ pub mod Lists
 pub mod LastLists
 pub mod Values
 pub mod Units
+pub mod UnitStreams
+pub mod MadeLaws

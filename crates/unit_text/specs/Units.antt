@@ -16,12 +16,16 @@ entry_line entry =
     labelled (codes "[0x") (hex entry.place) ++ labelled (codes "] ") (decimal entry.depth)
     ++ labelled (codes " ") (tag_text entry.tag) ++ (10 ∷ [])
 
+-- an attribute's name, and behind it the text of its value
+unfoldable pub value_line : ℕ → Text → Text
+value_line name value =
+    joined (Ok (labelled (codes "  ") (attribute_text name)))
+    (joined value (Ok (10 ∷ [])))
+
 module _ (u : UnitView) where
   -- the attribute's name and its value
   unfoldable pub attr_text : AttrView → Text
-  attr_text attr =
-      joined (Ok (labelled (codes "  ") (attribute_text attr.name)))
-      (joined (value_text u attr.place attr.raw) (Ok (10 ∷ [])))
+  attr_text attr = value_line attr.name (value_text u attr.place attr.raw)
 
   unfoldable pub attrs_text : List AttrView → Text
   attrs_text attrs = texts_of attr_text attrs

@@ -75,13 +75,6 @@ impl<'f> LastLists<'f> {
         }
     }
 
-    /// The sections.
-    pub(crate) fn sections(&self) -> Sections<'f>
-        ensures { sections_view result ≡ self.now }
-    {
-        self.sections
-    }
-
     /// The range list of a unit at an offset. It is no longer kept then, nor is another one: two
     /// range lists never lie in memory at once.
     #[tactic(auto, unfolding(range_lists::specs::Ranges::ranges_of))]

@@ -10,7 +10,7 @@ use entry_tree::AttrNames;
 /// The attributes that may have a range list or a location list (DWARF 5 sections 2.6.2 and 2.17.3): all
 /// that `write_lists` looks at.
 #[derive(Clone, Copy, Debug)]
-pub struct ListAttrs;
+pub(crate) struct ListAttrs;
 
 impl AttrNames for ListAttrs {
     ghost use Rattle.unit_text.specs.Lists.{is_list_attribute};

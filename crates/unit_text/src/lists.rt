@@ -33,6 +33,7 @@ use unit_headers::{UnitHeader, UnitRefusal};
 /// # Errors
 /// The first refusal of a list: at the attribute where its value can't be resolved, otherwise where the
 /// list can't be read. Want of memory may come at any time. `out` is then as it was.
+#[tactic(auto, unfolding(crate::specs::Lists::lists_text))]
 pub fn write_lists(
     alloc: Global,
     sections: &Sections<'_>,
@@ -47,37 +48,13 @@ pub fn write_lists(
         (map entry_view entries.now)) }
 {
     let mut lists = LastLists::new(sections);
-    write_lists_with(alloc, &mut lists, header, facts, entries, out)
-}
-
-/// Appends the same, with the lists that were read for the file's other units: a list that the
-/// attribute before named too is not read again, where the units' bases and lowest addresses are the
-/// same.
-///
-/// # Errors
-/// Those of [`write_lists`]. `out` is then as it was.
-#[tactic(auto, unfolding(crate::specs::Lists::lists_text))]
-pub fn write_lists_with(
-    alloc: Global,
-    lists: &mut LastLists<'_>,
-    header: &UnitHeader,
-    facts: &UnitFacts,
-    entries: &[Entry<'_>],
-    out: &mut Vec<u8>,
-) -> Result<(), UnitRefusal>
-    requires { IsAddressSize header.now.address_size }
-    ensures text { Writes result out.old.items out.new.items
-        (lists_text (unit_of lists.old header.now facts.now) (map entry_view entries.now)) }
-    ensures lists { lists.new ≡ lists.old }
-{
-    let sections = lists.sections();
     let unit = Unit {
-        sections: &sections,
+        sections,
         header,
         facts,
     };
     let before = out.len();
-    let done = put_lists(out, alloc, lists, &unit, entries);
+    let done = put_lists(out, alloc, &mut lists, &unit, entries);
     keep_whole(out, before, done)
 }
 
@@ -145,7 +122,7 @@ fn put_attrs_lists(
 
 /// Appends the list of an attribute, if it has one.
 #[tactic(auto, unfolding(crate::specs::Lists::attr_lists))]
-fn put_list(
+pub(crate) fn put_list(
     out: &mut Vec<u8>,
     alloc: Global,
     lists: &mut LastLists<'_>,

@@ -1,47 +1,39 @@
 //! The text of a unit: its line, and its entries with their attributes.
 
-ghost use Rattle.std.specs.Prelude.{map};
+ghost use Rattle.std.specs.Prelude.{◌≡◌, [], map};
 ghost use Rattle.dw_fields.specs.Reading.{IsAddressSize};
 ghost use Rattle.dw_text.specs.Added.{Adds};
 ghost use Rattle.elf_sections.specs.Shapes.{sections_view};
 ghost use Rattle.entry_tree.specs.Views.{attr_view, entry_view};
 ghost use Rattle.unit_text.specs.Pieces.{Puts, Writes};
 ghost use Rattle.unit_text.specs.UnitView.{unit_of, unit_view};
-ghost use Rattle.unit_text.specs.Units.{attr_text, attrs_text, entries_text, entry_line, entry_text, read_unit_text};
+ghost use Rattle.unit_text.specs.Units.{attrs_text, entries_text, entry_line, entry_text, read_unit_text};
 
 use crate::pieces::as_put;
 use crate::unit::Unit;
 use crate::unit_line::push_unit_line;
-use crate::values::put_value;
-use dw_names::{push_attribute_after, push_tag_after};
-use dw_text::{keep_whole, push_decimal_after, push_hex_after, push_text};
+use crate::values::put_attr;
+use dw_names::prepend_tag_after;
+use dw_text::{LineBuffer, keep_whole, push_text};
 use elf_sections::Sections;
 use entry_tree::{Attr, Entry};
 use form_values::UnitFacts;
 use std::alloc::{AllocError, Global};
 use unit_headers::{UnitHeader, UnitRefusal};
 
-/// Appends the line of an attribute; refused at the attribute's place where its value can't be resolved.
-#[tactic(auto, unfolding(crate::specs::Units::attr_text, crate::specs::Pieces::joined))]
-fn put_attr(out: &mut Vec<u8>, unit: &Unit<'_, '_>, attr: &Attr<'_>) -> Result<(), UnitRefusal>
-    requires { IsAddressSize unit.now.header.now.address_size }
-    ensures { Puts result out.old.items out.new.items
-        (attr_text (unit_view unit.now) (attr_view attr.now)) }
-{
-    as_put(push_attribute_after(out, b"  ", attr.name))?;
-    put_value(out, unit, attr.place, &attr.raw)?;
-    as_put(push_text(out, b"\n"))?;
-    Ok(())
-}
-
 /// Appends a line for each attribute.
-fn put_attrs(out: &mut Vec<u8>, unit: &Unit<'_, '_>, attrs: &[Attr<'_>]) -> Result<(), UnitRefusal>
+fn put_attrs(
+    out: &mut Vec<u8>,
+    line: &mut LineBuffer,
+    unit: &Unit<'_, '_>,
+    attrs: &[Attr<'_>],
+) -> Result<(), UnitRefusal>
     requires { IsAddressSize unit.now.header.now.address_size }
     ensures { Puts result out.old.items out.new.items
         (attrs_text (unit_view unit.now) (map attr_view attrs.now)) }
 {
     for attr in attrs {
-        match put_attr(out, unit, attr) {
+        match put_attr(out, line, unit, attr) {
             Ok(()) => {}
             Err(refusal) => return Err(refusal),
         }
@@ -49,27 +41,45 @@ fn put_attrs(out: &mut Vec<u8>, unit: &Unit<'_, '_>, attrs: &[Attr<'_>]) -> Resu
     Ok(())
 }
 
-/// Appends the line of an entry.
+/// Prepends the pieces of an entry's line, from the last to the first.
 #[tactic(auto, unfolding(crate::specs::Units::entry_line))]
-fn push_entry_line(out: &mut Vec<u8>, entry: &Entry<'_>) -> Result<(), AllocError>
+fn prepend_entry(line: &mut LineBuffer, entry: &Entry<'_>)
+    requires { line.old ≡ [] }
+    ensures { line.new ≡ entry_line (entry_view entry.now) }
+{
+    line.prepend_text(b"\n");
+    prepend_tag_after(line, b" ", entry.tag);
+    line.prepend_decimal_after(b"] ", u64::from(entry.depth));
+    line.prepend_hex_after(b"[0x", entry.place);
+}
+
+/// Appends the line of an entry, which is made in `line`.
+pub(crate) fn push_entry_line(
+    out: &mut Vec<u8>,
+    line: &mut LineBuffer,
+    entry: &Entry<'_>,
+) -> Result<(), AllocError>
     ensures { Adds result out.old.items out.new.items (entry_line (entry_view entry.now)) }
 {
-    push_hex_after(out, b"[0x", entry.place)?;
-    push_decimal_after(out, b"] ", u64::from(entry.depth))?;
-    push_tag_after(out, b" ", entry.tag)?;
-    push_text(out, b"\n")?;
-    Ok(())
+    line.clear();
+    prepend_entry(line, entry);
+    push_text(out, line.text())
 }
 
 /// Appends the lines of an entry.
 #[tactic(auto, unfolding(crate::specs::Units::entry_text, crate::specs::Pieces::joined))]
-fn put_entry(out: &mut Vec<u8>, unit: &Unit<'_, '_>, entry: &Entry<'_>) -> Result<(), UnitRefusal>
+fn put_entry(
+    out: &mut Vec<u8>,
+    line: &mut LineBuffer,
+    unit: &Unit<'_, '_>,
+    entry: &Entry<'_>,
+) -> Result<(), UnitRefusal>
     requires { IsAddressSize unit.now.header.now.address_size }
     ensures { Puts result out.old.items out.new.items
         (entry_text (unit_view unit.now) (entry_view entry.now)) }
 {
-    as_put(push_entry_line(out, entry))?;
-    put_attrs(out, unit, entry.attrs)?;
+    as_put(push_entry_line(out, line, entry))?;
+    put_attrs(out, line, unit, entry.attrs)?;
     Ok(())
 }
 
@@ -83,8 +93,9 @@ fn put_entries(
     ensures { Puts result out.old.items out.new.items
         (entries_text (unit_view unit.now) (map entry_view entries.now)) }
 {
+    let mut line = LineBuffer::new();
     for entry in entries {
-        match put_entry(out, unit, entry) {
+        match put_entry(out, &mut line, unit, entry) {
             Ok(()) => {}
             Err(refusal) => return Err(refusal),
         }

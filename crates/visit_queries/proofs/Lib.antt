@@ -1,7 +1,7 @@
 pub mod Showing
 pub mod KeptNames
 pub mod Places
-pub mod NameSteps
+pub mod NamedSteps
 pub mod UnitSteps
 pub mod DeclaredKeys
 pub mod Reporting

@@ -13,6 +13,7 @@ mod kept_lines;
 mod laws;
 mod name_attrs;
 mod named;
+mod named_entries;
 mod names;
 mod show;
 mod tag_visitors;

@@ -1,124 +1,73 @@
 //! The names of entries (DWARF 5 section 2.15).
 
-ghost use Rattle.std.specs.Prelude.{◌≡◌, ◌==◌, ◌++◌, ◌∷◌, [], map, option_map, OnOk};
-ghost use Rattle.std.specs.List.{find};
-ghost use Rattle.dw_numbers.specs.declared.attribute.TheConstants.{NAME};
+ghost use Rattle.std.specs.Prelude.{◌≡◌, option_map};
+ghost use Rattle.std.specs.Result.{result_map_both};
 ghost use Rattle.elf_sections.specs.Shapes.{sections_view};
-ghost use Rattle.entry_tree.specs.Views.{attr_view, entry_view};
-ghost use Rattle.unit_headers.specs.Refusals.{Answers};
-ghost use Rattle.visit_queries.specs.Shown.{name_in, name_of as name_among, named_entries, named_entry, shown_entry};
+ghost use Rattle.entry_tree.specs.Views.{attr_view};
+ghost use Rattle.visit_queries.specs.NamedEntries.{named_head};
+ghost use Rattle.visit_queries.specs.Shown.{name_in, shown_entry};
 
 use crate::visitor::EntryView;
-use bumpalo::Bump;
-use bumpalo::collections::into_bump_slice;
 use dw_fields::Fault;
-use dw_numbers::attribute;
 use elf_sections::Sections;
-use entry_tree::{Attr, Entry};
+use entry_tree::{Attr, EntryHead};
 use form_values::{Bases, Raw, resolve_text};
-use std::alloc::AllocError;
-use unit_headers::{UnitHeader, UnitRefusal};
+use unit_headers::UnitHeader;
 
-/// The first attribute that gives a name.
-fn first_name<'a>(attrs: &'a [Attr<'a>]) -> Option<Attr<'a>>
-    ensures { option_map attr_view result
-        ≡ find (λ a. a.name == NAME) (map attr_view attrs.entry.now) }
-{
-    for attr in attrs {
-        if attr.name == attribute::NAME {
-            return Some(*attr);
-        }
-    }
-    None
+/// A unit, and what the names of its entries hang on.
+#[derive(Clone, Copy, Debug)]
+pub(crate) struct NamedUnit<'f> {
+    /// The number of the unit.
+    pub number: u32,
+    /// Its header.
+    pub header: UnitHeader,
+    /// The sections that it is of.
+    pub sections: Sections<'f>,
+    /// Where its tables begin.
+    pub bases: Bases,
 }
 
-/// The text of an attribute, if its value is one; refused at the attribute's place.
-#[tactic(auto, unfolding(crate::specs::Shown::name_in))]
-fn name_in<'a>(
-    header: &UnitHeader,
-    sections: &Sections<'a>,
-    bases: &Bases,
-    attr: Option<Attr<'a>>,
-) -> Result<Option<&'a [u8]>, UnitRefusal>
-    ensures { Answers (option_map (λ name. name.now)) result
-        (name_in (sections_view sections.entry.now) header.now bases.now
-        (option_map attr_view attr.entry)) }
-{
-    let Some(attr) = attr else {
-        return Ok(None);
-    };
-    match attr.raw {
-        Raw::Text(_) | Raw::TextOffset(_) | Raw::LineTextOffset(_) | Raw::TextIndex(_) => {
-            match resolve_text(&attr.raw, header, sections, bases) {
-                Ok(text) => Ok(Some(text)),
-                Err(code) => Err(UnitRefusal::Refused(Fault::at(code, attr.place))),
-            }
-        }
-        _ => Ok(None),
-    }
-}
-
-/// An entry of this unit with its name.
-#[tactic(auto, unfolding(crate::specs::Shown::named_entry, crate::specs::Shown::name_of))]
-fn name_entry<'a>(
-    unit: u32,
-    header: &UnitHeader,
-    sections: &Sections<'a>,
-    bases: &Bases,
-    entry: &Entry<'a>,
-) -> Result<EntryView<'a>, UnitRefusal>
-    ensures { Answers shown_entry result
-        (named_entry (sections_view sections.entry.now) unit header.now bases.now
-        (entry_view entry.entry.now)) }
-{
-    let name = name_in(header, sections, bases, first_name(entry.attrs))?;
-    Ok(EntryView {
-        unit,
-        place: entry.place,
-        depth: entry.depth,
-        tag: entry.tag,
-        name,
-    })
-}
-
-/// Puts an entry at the list's end.
-fn add_view<'a>(
-    views: &mut Vec<EntryView<'a>, &'a Bump>,
-    view: EntryView<'a>,
-) -> Result<(), AllocError>
-    ensures { OnOk result (map shown_entry views.new.items
-        ≡ map shown_entry views.old.items ++ shown_entry view.entry ∷ []) }
-{
-    match views.push(view) {
-        Ok(()) => Ok(()),
-        Err(_) => Err(AllocError),
-    }
-}
-
-/// The entries of this unit with their names, in the arena; refused at the first name that can't be
-/// resolved.
-pub(crate) fn name_entries<'a>(
-    arena: &'a Bump,
-    unit: u32,
-    header: &UnitHeader,
-    sections: &Sections<'a>,
-    bases: &Bases,
-    entries: &[Entry<'a>],
-) -> Result<&'a [EntryView<'a>], UnitRefusal>
-    ensures { Answers (λ views. map shown_entry views.now) result
-        (named_entries (sections_view sections.entry.now) unit header.now bases.now
-        (map entry_view entries.entry.now)) }
-{
-    let mut views: Vec<EntryView<'a>, &'a Bump> = Vec::with_capacity(arena, entries.len())?;
-    for entry in entries {
-        let view = match name_entry(unit, header, sections, bases, entry) {
-            Ok(view) => view,
-            Err(refusal) => return Err(refusal),
+impl<'f> NamedUnit<'f> {
+    /// The text of an attribute, if its value is one; refused at the attribute's place.
+    #[inline(always)]
+    #[tactic(auto, unfolding(crate::specs::Shown::name_in))]
+    fn name_in(&self, attr: Option<Attr<'f>>) -> Result<Option<&'f [u8]>, Fault>
+        ensures { result_map_both (option_map (λ name. name.now)) (λ f. f) result
+            ≡ name_in (sections_view self.entry.now.sections) self.entry.now.header
+            self.entry.now.bases (option_map attr_view attr.entry) }
+    {
+        let Some(attr) = attr else {
+            return Ok(None);
         };
-        match add_view(&mut views, view) {
-            Ok(()) => {}
-            Err(_) => return Err(UnitRefusal::OutOfMemory),
+        match attr.raw {
+            Raw::Text(_) | Raw::TextOffset(_) | Raw::LineTextOffset(_) | Raw::TextIndex(_) => {
+                match resolve_text(&attr.raw, &self.header, &self.sections, &self.bases) {
+                    Ok(text) => Ok(Some(text)),
+                    Err(code) => Err(Fault::at(code, attr.place)),
+                }
+            }
+            _ => Ok(None),
         }
     }
-    Ok(into_bump_slice(views))
+
+    /// An entry of this unit with its name, which is that of the attribute.
+    #[inline(always)]
+    #[tactic(auto, unfolding(crate::specs::NamedEntries::named_head))]
+    pub(crate) fn name_entry(
+        &self,
+        head: EntryHead,
+        name: Option<Attr<'f>>,
+    ) -> Result<EntryView<'f>, Fault>
+        ensures { result_map_both shown_entry (λ f. f) result
+            ≡ named_head self.entry.now head (option_map attr_view name.entry) }
+    {
+        let name = self.name_in(name)?;
+        Ok(EntryView {
+            unit: self.number,
+            place: head.place,
+            depth: head.depth,
+            tag: head.tag,
+            name,
+        })
+    }
 }

@@ -10,7 +10,8 @@ ghost use Rattle.visit_queries.specs.Shown.{ShownEntry, met_in, met_in_unit, hea
 ghost use Rattle.visit_queries.specs.Seen.{Shows};
 
 use crate::name_attrs::NameAttrs;
-use crate::names::name_entries;
+use crate::named_entries::NamedEntries;
+use crate::names::NamedUnit;
 use crate::show::show;
 use crate::visitor::{EntryView, Turn, Visitor};
 use crate::walk_stop::{WalkStop, stop_in};
@@ -18,9 +19,10 @@ use abbrev_decl::{Decls, Steps};
 use bumpalo::Bump;
 use dw_fields::Fault;
 use elf_sections::Sections;
-use entry_tree::{read_kept_entries, renew, root_facts};
+use entry_tree::{read_unit_into, renew, root_facts};
 use form_values::Bases;
 use std::alloc::Global;
+use std::mem;
 use unit_headers::{UnitHeader, UnitIndex, UnitRefusal};
 
 /// The header of a unit, which is that of a unit of these sections.
@@ -39,46 +41,55 @@ fn read_header(
     index.header(unit)
 }
 
-/// The entries of the unit of a header with their names, in the arena.
+/// The entries of the unit of a header with their names.
 #[tactic(auto, using(crate::proofs::KeptNames::named_of_read, crate::proofs::KeptNames::named_refused), unfolding(crate::specs::Shown::header_entries))]
-fn read_named<'a, 'f: 'a, D: Decls<'f>, L>(
-    arena: &'a Bump,
-    sections: &Sections<'f>,
+fn read_named<'f, D: Decls<'f>, L>(
+    arena: &Bump,
     decls: &mut D,
-    unit: u32,
-    header: &UnitHeader,
-    bases: &Bases,
+    unit: NamedUnit<'f>,
+    views: Vec<EntryView<'f>>,
     steps: &mut Steps<L>,
-) -> Result<&'a [EntryView<'a>], UnitRefusal>
-    requires section { D.section decls.old ≡ (sections_view sections.now).«abbrev» }
-    requires unit { IsUnitOf (sections_view sections.now) header.now }
-    requires short { AreShort (sections_view sections.now) }
-    ensures entries { Answers (λ views. map shown_entry views.now) result
-        (header_entries (sections_view sections.entry.now) unit header.now bases.now) }
+) -> Result<Vec<EntryView<'f>>, UnitRefusal>
+    requires section { D.section decls.old ≡ (sections_view unit.sections).«abbrev» }
+    requires unit { IsUnitOf (sections_view unit.sections) unit.header }
+    requires short { AreShort (sections_view unit.sections) }
+    ensures entries { Answers (λ views. map shown_entry views.items) result
+        (header_entries (sections_view unit.entry.sections) unit.entry.number unit.entry.header unit.entry.bases) }
     ensures follows { D.follows decls.old decls.new }
-    ensures placed { GainsOnly (IsFoundKey (D.section decls.old) header.now.«abbrev»)
+    ensures placed { GainsOnly (IsFoundKey (D.section decls.old) unit.entry.header.«abbrev»)
         (D.placed decls.old) (D.placed decls.new) }
 {
-    let entries = read_kept_entries::<D, NameAttrs, L>(arena, decls, header, sections, steps)?;
-    name_entries(arena, unit, header, sections, bases, entries)
+    let header = unit.header;
+    let sections = unit.sections;
+    let mut entries = NamedEntries::new(unit, views);
+    read_unit_into::<D, NameAttrs, NamedEntries<'f>, L>(
+        arena,
+        decls,
+        &header,
+        &sections,
+        &mut entries,
+        steps,
+    )?;
+    entries.finish()
 }
 
-/// The entries of a unit with their names, in the arena.
+/// The entries of a unit with their names. The list's room is used again; what stands in it is given up.
 #[tactic(auto, unfolding(crate::specs::Shown::unit_entries, crate::specs::Shown::header_entries))]
-fn read_unit<'a, 'f: 'a, D: Decls<'f>, L>(
-    arena: &'a Bump,
+fn read_unit<'f, D: Decls<'f>, L>(
+    arena: &Bump,
     sections: &Sections<'f>,
     index: &UnitIndex<'f>,
     decls: &mut D,
     unit: u32,
+    views: Vec<EntryView<'f>>,
     steps: &mut Steps<L>,
-) -> Result<&'a [EntryView<'a>], UnitRefusal>
+) -> Result<Vec<EntryView<'f>>, UnitRefusal>
     requires section { D.section decls.old ≡ (sections_view sections.now).«abbrev» }
     requires index { index.now ≡ units_of (sections_view sections.now) }
     requires short { AreShort (sections_view sections.now) }
     requires inside { unit < unit_count (sections_view sections.now).info
         (sections_view sections.now).order }
-    ensures entries { Answers (λ views. map shown_entry views.now) result
+    ensures entries { Answers (λ views. map shown_entry views.items) result
         (unit_entries (sections_view sections.entry.now) unit) }
     ensures follows { D.follows decls.old decls.new }
     ensures placed { GainsOnly (IsDeclaredKey (D.section decls.old)) (D.placed decls.old)
@@ -86,17 +97,25 @@ fn read_unit<'a, 'f: 'a, D: Decls<'f>, L>(
 {
     let header = read_header(sections, index, unit)?;
     let facts = root_facts(decls, &header, sections, steps)?;
-    read_named(arena, sections, decls, unit, &header, &facts.bases, steps)
+    let unit = NamedUnit {
+        number: unit,
+        header,
+        sections: *sections,
+        bases: facts.bases,
+    };
+    read_named(arena, decls, unit, views, steps)
 }
 
-/// Shows the entries of a unit.
+/// Shows the entries of a unit, which are read into the room of this list.
 fn show_unit<'f, D: Decls<'f>, L, V: Visitor>(
+    alloc: Global,
     arena: &Bump,
     sections: &Sections<'f>,
     index: &UnitIndex<'f>,
     decls: &mut D,
     visitor: &mut V,
     unit: u32,
+    views: &mut Vec<EntryView<'f>>,
     steps: &mut Steps<L>,
 ) -> Result<Turn, WalkStop>
     requires section { D.section decls.old ≡ (sections_view sections.now).«abbrev» }
@@ -114,8 +133,12 @@ fn show_unit<'f, D: Decls<'f>, L, V: Visitor>(
     ensures placed { GainsOnly (IsDeclaredKey (D.section decls.old)) (D.placed decls.old)
         (D.placed decls.new) }
 {
-    match read_unit(arena, sections, index, decls, unit, steps) {
-        Ok(views) => show(visitor, views),
+    let room = mem::replace(views, Vec::new(alloc));
+    match read_unit(arena, sections, index, decls, unit, room, steps) {
+        Ok(read) => {
+            *views = read;
+            show(visitor, views.as_slice())
+        }
         Err(refusal) => Err(stop_in(unit, refusal)),
     }
 }
@@ -143,8 +166,11 @@ pub(crate) fn show_units<'f, D: Decls<'f>, L, V: Visitor>(
         (D.placed decls.new) }
 {
     let mut arena = Bump::new(alloc);
+    let mut views = Vec::new(alloc);
     'units: for unit in 0..index.count() {
-        match show_unit(&arena, sections, index, decls, visitor, unit, steps) {
+        match show_unit(
+            alloc, &arena, sections, index, decls, visitor, unit, &mut views, steps,
+        ) {
             Ok(Turn::More) => {}
             Ok(Turn::Enough) => return Ok(Turn::Enough),
             Err(stop) => return Err(stop),

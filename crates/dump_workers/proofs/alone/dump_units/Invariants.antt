@@ -4,7 +4,7 @@ use Rattle.handle_cache.specs.Handles.{Belongs, sections_in}
 use Rattle.dump_workers.specs.declared.ends.DumpFault.{DumpFault}
 use Rattle.dump_workers.specs.declared.ends.RefusedUnit.{RefusedUnit}
 use Rattle.dump_workers.specs.Dumps.{Prints, dump_from}
-use Rattle.dump_workers.specs.FileKeys.{NotesUnit, ReadsUnits}
+use Rattle.dump_workers.specs.FileKeys.{CountsUnits, GainsUnits, NotesUnit}
 use Rattle.dump_workers.specs.UnitDumps.{entries_from}
 use Rattle.dump_workers.proofs.alone.dump_units.Given as goal
 
@@ -18,7 +18,9 @@ invariant-units g l = record {
   room : l.entries ≤ l.unit * 2 ^ 32;
   belongs : Belongs l.handle l.pass;
   follows : Follows l.fn.pass l.pass;
-  reads : ReadsUnits (sections_in l.handle) l.fn.pass l.pass l.fn.steps l.steps;
+  gains : GainsUnits (sections_in l.handle) l.fn.pass l.pass;
+  counts : CountsUnits (sections_in l.handle) l.fn.pass l.fn.steps l.steps;
+  walks : l.walker ≡ (sections_in l.handle).«abbrev»;
   noted : (u : ℕ) → u < l.unit → NotesUnit (sections_in l.handle) u l.pass;
   later : g.O.Sink.faults l.fn.out ≤ g.O.Sink.faults l.out;
 }

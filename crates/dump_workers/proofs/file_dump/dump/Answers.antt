@@ -1,6 +1,6 @@
 use Rattle.handle_cache.specs.Handles.{sections_in}
 use Rattle.dump_workers.proofs.PassLaws.{each_owns, passes_kept, whole_none}
-use Rattle.dump_workers.proofs.SeatLaws.{each_belongs, each_length, each_same}
+use Rattle.dump_workers.proofs.SeatLaws.{each_belongs, each_counts_same, each_length, each_same}
 use Rattle.dump_workers.proofs.WindowLaws.{on_ok, stands_first}
 use Rattle.dump_workers.proofs.file_dump.dump.Goals as goal
 
@@ -20,8 +20,8 @@ returns-in-Ok-clause-passes g c = passes_kept c.args.seats.now.items c.dump_wind
 
 pub returns-in-Ok-clause-only : goal.returns-in-Ok-clause-only
 returns-in-Ok-clause-only g c =
-    on_ok c.dump_windows.result _ _ c.dump_windows.ensures.reads
-    (λ reads none owns. each_owns (sections_in c.args.handle.now) c.args.seats.now.items c.dump_windows.new.seats.items reads none owns)
+    on_ok c.dump_windows.result _ _ c.dump_windows.ensures.gains
+    (λ gains none owns. each_owns (sections_in c.args.handle.now) c.args.seats.now.items c.dump_windows.new.seats.items gains none owns)
 
 pub returns-in-Ok-clause-size : goal.returns-in-Ok-clause-size
 returns-in-Ok-clause-size g c = each_length c.args.seats.now.items c.dump_windows.new.seats.items c.dump_windows.ensures.follow
@@ -39,8 +39,11 @@ returns-then-len-eq1-clause-size g c = each_length c.args.seats.now.items c.dump
 
 pub returns-then-len-eq1-clause-only : goal.returns-then-len-eq1-clause-only
 returns-then-len-eq1-clause-only g c =
-    on_ok c.dump_alone.result _ _ c.dump_alone.ensures.reads
-    (λ reads none owns. each_owns (sections_in c.args.handle.now) c.args.seats.now.items c.dump_alone.new.seats.items reads none owns)
+    on_ok c.dump_alone.result _ _ c.dump_alone.ensures.gains
+    (λ gains none owns. each_owns (sections_in c.args.handle.now) c.args.seats.now.items c.dump_alone.new.seats.items gains none owns)
 
 pub returns-clause-follow : goal.returns-clause-follow
 returns-clause-follow g c = each_same c.args.seats.now.items
+
+pub returns-clause-counts : goal.returns-clause-counts
+returns-clause-counts g c = each_counts_same (sections_in c.args.handle.now) c.args.seats.now.items

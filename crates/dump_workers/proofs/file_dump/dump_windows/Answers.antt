@@ -8,7 +8,7 @@ use Rattle.dump_workers.specs.declared.ends.DumpFault.TheVariants as dump_faults
 use Rattle.dump_workers.specs.Dumps.{Prints, dump_from}
 use Rattle.dump_workers.specs.UnitDumps.{entries_from}
 use Rattle.dump_workers.specs.Windows.{NoteBelow}
-use Rattle.dump_workers.proofs.SeatLaws.{each_length, each_reads_same, each_reads_then, each_same, each_then}
+use Rattle.dump_workers.proofs.SeatLaws.{each_counts_same, each_counts_then, each_gains_same, each_gains_then, each_length, each_same, each_then}
 use Rattle.dump_workers.proofs.WindowSums.{entries_begin, entries_whole, entries_window, notes_begin, notes_whole, notes_window, refuses_some, units_below, windows_begin, windows_done, windows_end, windows_stop, windows_then, windows_unread}
 use Rattle.dump_workers.proofs.file_dump.dump_windows.Goals as goal
 
@@ -21,7 +21,8 @@ windows-init g c =
       room = omega arith;
       belong = c.requires.belong;
       follow = each_same c.args.seats.now.items;
-      reads = each_reads_same s c.args.seats.now.items;
+      gains = each_gains_same s c.args.seats.now.items;
+      counts = each_counts_same s c.args.seats.now.items;
       noted = λ given. notes_begin s c.count-units.result c.args.seats.now.items;
       stands = c.requires.stands;
       size = refl;
@@ -36,6 +37,11 @@ returns-in-Err-clause-dump g c =
 
 pub returns-in-Err-clause-follow : goal.returns-in-Err-clause-follow
 returns-in-Err-clause-follow g c = each_then c.args.seats.now.items c.windows.seats.items c.read_window.new.seats.items c.windows.invariant.follow c.in-Err.ensures.follow
+
+pub returns-in-Err-clause-counts : goal.returns-in-Err-clause-counts
+returns-in-Err-clause-counts g c =
+    each_counts_then (sections_in c.args.handle.now) c.args.seats.now.items c.windows.seats.items c.read_window.new.seats.items
+    c.windows.invariant.follow c.windows.invariant.counts c.in-Err.ensures.counts
 
 pub returns-in-Ok-Some-clause-dump : goal.returns-in-Ok-Some-clause-dump
 returns-in-Ok-Some-clause-dump g c =
@@ -52,10 +58,15 @@ returns-in-Ok-Some-clause-dump g c =
 pub returns-in-Ok-Some-clause-follow : goal.returns-in-Ok-Some-clause-follow
 returns-in-Ok-Some-clause-follow g c = each_then c.args.seats.now.items c.windows.seats.items c.read_window.new.seats.items c.windows.invariant.follow c.in-Ok.ensures.follow
 
-pub returns-in-Ok-Some-clause-reads : goal.returns-in-Ok-Some-clause-reads
-returns-in-Ok-Some-clause-reads g c =
-    each_reads_then (sections_in c.args.handle.now) c.args.seats.now.items c.windows.seats.items c.read_window.new.seats.items
-    c.windows.invariant.follow c.windows.invariant.reads c.in-Ok.ensures.table
+pub returns-in-Ok-Some-clause-gains : goal.returns-in-Ok-Some-clause-gains
+returns-in-Ok-Some-clause-gains g c =
+    each_gains_then (sections_in c.args.handle.now) c.args.seats.now.items c.windows.seats.items c.read_window.new.seats.items
+    c.windows.invariant.gains c.in-Ok.ensures.gains
+
+pub returns-in-Ok-Some-clause-counts : goal.returns-in-Ok-Some-clause-counts
+returns-in-Ok-Some-clause-counts g c =
+    each_counts_then (sections_in c.args.handle.now) c.args.seats.now.items c.windows.seats.items c.read_window.new.seats.items
+    c.windows.invariant.follow c.windows.invariant.counts c.in-Ok.ensures.counts
 
 pub returns-in-Ok-Some-clause-noted : goal.returns-in-Ok-Some-clause-noted
 returns-in-Ok-Some-clause-noted g c =
@@ -86,6 +97,11 @@ pub returns-in-Err-print_units-clause-follow : goal.returns-in-Err-print_units-c
 returns-in-Err-print_units-clause-follow g c =
     each_then c.args.seats.now.items c.windows.seats.items c.read_window.new.seats.items c.windows.invariant.follow c.in-Ok.ensures.follow
 
+pub returns-in-Err-print_units-clause-counts : goal.returns-in-Err-print_units-clause-counts
+returns-in-Err-print_units-clause-counts g c =
+    each_counts_then (sections_in c.args.handle.now) c.args.seats.now.items c.windows.seats.items c.read_window.new.seats.items
+    c.windows.invariant.follow c.windows.invariant.counts c.in-Ok.ensures.counts
+
 pub windows-preserved : goal.windows-preserved
 windows-preserved g c =
     let s = sections_in c.args.handle.now in
@@ -109,7 +125,8 @@ windows-preserved g c =
       room = let room = c.print_units.ensures.room whole in omega (arith, room, end_is);
       belong = c.in-Ok.ensures.belong;
       follow = each_then c.args.seats.now.items c.windows.seats.items c.read_window.new.seats.items before.follow c.in-Ok.ensures.follow;
-      reads = each_reads_then s c.args.seats.now.items c.windows.seats.items c.read_window.new.seats.items before.follow before.reads c.in-Ok.ensures.table;
+      gains = each_gains_then s c.args.seats.now.items c.windows.seats.items c.read_window.new.seats.items before.gains c.in-Ok.ensures.gains;
+      counts = each_counts_then s c.args.seats.now.items c.windows.seats.items c.read_window.new.seats.items before.follow before.counts c.in-Ok.ensures.counts;
       noted = λ none. subst (λ (n : ℕ). NoteBelow s n c.read_window.new.seats.items) end_is
           (notes_window s units w end c.windows.seats.items c.read_window.new.seats.items (omega (arith, end_is)) c.in-Ok.ensures.follow (before.noted none) count
           (c.in-Ok.ensures.noted none));

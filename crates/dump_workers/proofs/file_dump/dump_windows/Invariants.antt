@@ -2,7 +2,7 @@ use Rattle.std.proofs.Common.{◌≡◌, ◌≤◌, ◌*◌, ◌^◌, length, Ok
 use Rattle.handle_cache.specs.Handles.{sections_in}
 use Rattle.dump_workers.specs.Dumps.{Prints, dump_from}
 use Rattle.dump_workers.specs.FileKeys.{RefusesNone}
-use Rattle.dump_workers.specs.Seats.{EachBelongs, EachFollows, EachReads}
+use Rattle.dump_workers.specs.Seats.{EachBelongs, EachCounts, EachFollows, EachGains}
 use Rattle.dump_workers.specs.UnitDumps.{entries_from}
 use Rattle.dump_workers.specs.Windows.{NoteBelow, StandsBefore}
 use Rattle.dump_workers.proofs.WindowSums.{units_below}
@@ -16,7 +16,8 @@ invariant-windows g l = record {
   room : l.entries ≤ units_below l.units l.window * 2 ^ 32;
   belong : EachBelongs l.handle l.seats.items;
   follow : EachFollows l.fn.seats.items l.seats.items;
-  reads : EachReads (sections_in l.handle) l.fn.seats.items l.seats.items;
+  gains : EachGains (sections_in l.handle) l.fn.seats.items l.seats.items;
+  counts : EachCounts (sections_in l.handle) l.fn.seats.items l.seats.items;
   noted : RefusesNone (sections_in l.handle) → NoteBelow (sections_in l.handle) (units_below l.units l.window) l.seats.items;
   stands : StandsBefore l.draws l.window l.first;
   size : length l.seats.items ≡ length l.fn.seats.items;

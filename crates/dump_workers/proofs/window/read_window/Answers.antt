@@ -3,7 +3,7 @@ use Rattle.handle_cache.specs.Handles.{sections_in}
 use Rattle.dump_workers.specs.FileKeys.{RefusesNone}
 use Rattle.dump_workers.specs.Windows.{IsGathered, NoteWindow, ReadsWindow, StandsBefore, with_spare}
 use Rattle.dump_workers.proofs.SeatLaws.{each_belongs}
-use Rattle.dump_workers.proofs.WindowLaws.{all_come_back, all_may_serve, all_note, if_ok, ok_both, on_ok, reads_once, reads_window, stands_then, window_follows, window_notes, window_reads}
+use Rattle.dump_workers.proofs.WindowLaws.{all_come_back, all_may_serve, all_note, if_ok, ok_both, on_ok, reads_once, reads_window, stands_then, window_counts, window_follows, window_gains, window_notes}
 use Rattle.dump_workers.proofs.window.read_window.Goals as goal
 
 pub serve_all-requires-clause-serve : goal.serve_all-requires-clause-serve
@@ -58,13 +58,20 @@ returns-clause-reads g c =
     (λ r gathered. reads_window c.args.draws.now s c.args.window (n - 1) c.args.first r.0 r.1.items c.requires.units c.requires.stands room
     (subst (λ (k : ℕ). IsGathered c.args.draws.now s c.args.window first k r.0 r.1.items) same (gathered s c.args.window first back)))
 
-pub returns-clause-table : goal.returns-clause-table
-returns-clause-table g c =
+pub returns-clause-gains : goal.returns-clause-gains
+returns-clause-gains g c =
     let n : ℕ = length c.args.seats.now.items in
     on_ok c.gather.result _ _ c.gather.ensures.drawn
-    (window_reads c.args.handle.now c.args.draws.now c.args.window (with_spare c.args.first.knows (c.args.first.knows.spare - (n - 1)))
+    (window_gains c.args.handle.now c.args.draws.now c.args.window (with_spare c.args.first.knows (c.args.first.knows.spare - (n - 1)))
     c.args.seats.now.items c.hand_out.new.seats.items c.hand_out.ensures.length c.hand_out.ensures.same c.hand_out.ensures.handed
     c.serve_all.new.seats.items c.serve_all.ensures.length c.serve_all.ensures.each c.gather.new.seats.items c.gather.ensures.length c.gather.ensures.same)
+
+pub returns-clause-counts : goal.returns-clause-counts
+returns-clause-counts g c =
+    let n : ℕ = length c.args.seats.now.items in
+    window_counts c.args.handle.now c.args.draws.now c.args.window (with_spare c.args.first.knows (c.args.first.knows.spare - (n - 1)))
+    c.args.seats.now.items c.hand_out.new.seats.items c.hand_out.ensures.length c.hand_out.ensures.same c.hand_out.ensures.handed
+    c.serve_all.new.seats.items c.serve_all.ensures.length c.serve_all.ensures.each c.gather.new.seats.items c.gather.ensures.length c.gather.ensures.same
 
 pub returns-clause-noted : goal.returns-clause-noted
 returns-clause-noted g c =

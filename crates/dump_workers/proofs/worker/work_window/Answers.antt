@@ -1,5 +1,6 @@
 use Rattle.std.proofs.Common.{◌∙◌, ◌++◌, ◌∷◌, [], ℕ, refl, ap, subst, arith, ◌≡◌}
 use Rattle.std.proofs.lemmas.List.Elements.{All-nil, All-push}
+use Rattle.elf_sections.specs.Shapes.{SectionsView}
 use Rattle.map_cells.specs.FollowLaws.{follows_same, follows_then}
 use Rattle.handle_cache.specs.Handles.{sections_in}
 use Rattle.unit_draws.specs.declared.view.DrawView.{DrawView}
@@ -10,7 +11,7 @@ use Rattle.unit_headers.specs.Headers.{unit_count}
 use Rattle.dump_workers.specs.declared.reading.Reading.{Reading}
 use Rattle.dump_workers.specs.Readings.{IsReading}
 use Rattle.dump_workers.proofs.DrawLaws.{keeps_same, keeps_then, serves_whole}
-use Rattle.dump_workers.proofs.UnitKeys.{reads_same, reads_then}
+use Rattle.dump_workers.proofs.UnitKeys.{counts_same, counts_then, gains_same, gains_then}
 use Rattle.dump_workers.proofs.ReadingLaws.{drawn_more, notes_more, notes_none, reading_of}
 use Rattle.dump_workers.proofs.worker.work_window.Goals as goal
 
@@ -26,7 +27,9 @@ units-init g c =
       drawn = λ u. rw none (let zero_more = occurrences-nil u in omega arith);
       each = rw none (All-nil (IsReading s c.args.window));
       noted = rw none (notes_none s c.args.pass.now);
-      reads = reads_same s c.args.pass.now c.args.steps.now;
+      gains = gains_same s c.args.pass.now;
+      counts = counts_same s c.args.pass.now c.args.steps.now;
+      walks = c.new-walker.ensures ∙ ap (λ (x : SectionsView). x.«abbrev») c.sections.ensures.sections;
     }
 
 pub units-preserved : goal.units-preserved
@@ -49,7 +52,9 @@ units-preserved g c =
       drawn = λ u. ap (occurrences u) (told.drawn ∙ ap (λ (v : DrawView). v.drawn) drew) ∙ rw added (drawn_more u unit c.args.seat.now.knows.drawn c.units.seat.knows.drawn c.units.readings.items r c.in-Ok.ensures.unit (before.drawn u));
       each = rw added (All-push (IsReading s c.args.window) c.units.readings.items r before.each (reading_of s c.args.window unit r c.in-Ok.ensures.unit inside c.in-Ok.ensures.read));
       noted = rw added (notes_more s c.units.pass c.read_drawn-read.new.pass unit c.units.readings.items r c.in-Ok.ensures.unit c.in-Ok.ensures.follows before.noted c.in-Ok.ensures.noted);
-      reads = reads_then s c.args.pass.now c.units.pass c.read_drawn-read.new.pass c.args.steps.now c.units.steps c.read_drawn-read.new.steps before.follows before.reads c.in-Ok.ensures.reads;
+      gains = gains_then s c.args.pass.now c.units.pass c.read_drawn-read.new.pass before.gains c.in-Ok.ensures.gains;
+      counts = counts_then s c.args.pass.now c.units.pass c.args.steps.now c.units.steps c.read_drawn-read.new.steps before.follows before.counts c.in-Ok.ensures.counts;
+      walks = c.in-Ok.ensures.walks;
     }
 
 pub returns-clause-serves : goal.returns-clause-serves
@@ -58,3 +63,13 @@ returns-clause-serves g c =
     serves_whole c.args.draws.now (sections_in c.args.handle.now) c.args.window c.args.seat.now.knows c.units.seat c.draw.new.seat c.units.readings.items
     c.in_default.ensures.of before.keeps c.in_default.ensures.numbers before.ended before.drawn before.each
     c.in_default.ensures.ended c.in_default.ensures.whole
+
+pub returns-in-Err-clause-counts : goal.returns-in-Err-clause-counts
+returns-in-Err-clause-counts g c =
+    let before = c.units.invariant in
+    counts_then (sections_in c.args.handle.now) c.args.pass.now c.units.pass c.args.steps.now c.units.steps c.read_drawn-read.new.steps before.follows before.counts c.in-Err.ensures.counts
+
+pub returns-in-Err-add_reading-clause-counts : goal.returns-in-Err-add_reading-clause-counts
+returns-in-Err-add_reading-clause-counts g c =
+    let before = c.units.invariant in
+    counts_then (sections_in c.args.handle.now) c.args.pass.now c.units.pass c.args.steps.now c.units.steps c.read_drawn-read.new.steps before.follows before.counts c.in-Ok.ensures.counts

@@ -2,7 +2,7 @@ use Rattle.std.proofs.Common.{◌≡◌, ◌+◌, ℕ, All}
 use Rattle.unit_draws.specs.Seats.{IsSeatOf, KeepsNumbers, occurrences, places_ahead}
 use Rattle.map_cells.specs.Seen.{Follows}
 use Rattle.handle_cache.specs.Handles.{Belongs, sections_in}
-use Rattle.dump_workers.specs.FileKeys.{ReadsUnits}
+use Rattle.dump_workers.specs.FileKeys.{CountsUnits, GainsUnits}
 use Rattle.dump_workers.specs.Readings.{IsReading, units_read}
 use Rattle.dump_workers.specs.Windows.{NotesReadings}
 use Rattle.dump_workers.proofs.worker.work_window.Given as goal
@@ -18,7 +18,9 @@ invariant-units g l = record {
   drawn : (u : ℕ) → occurrences u l.seat.knows.drawn ≡ occurrences u l.fn.seat.knows.drawn + occurrences u (units_read l.readings.items);
   each : All (IsReading (sections_in l.handle) l.window) l.readings.items;
   noted : NotesReadings (sections_in l.handle) l.pass l.readings.items;
-  reads : ReadsUnits (sections_in l.handle) l.fn.pass l.pass l.fn.steps l.steps;
+  gains : GainsUnits (sections_in l.handle) l.fn.pass l.pass;
+  counts : CountsUnits (sections_in l.handle) l.fn.pass l.fn.steps l.steps;
+  walks : l.walker ≡ (sections_in l.handle).«abbrev»;
 }
 
 abbrev pub decreases-units : goal.decreases-units

@@ -1,4 +1,4 @@
-use Rattle.std.proofs.Common.{◌+◌, ◌-◌, ◌++◌, ◌≡◌, ◌≤◌, drop, ◌<◌, ◌^◌, length}
+use Rattle.std.proofs.Common.{◌+◌, ◌-◌, ◌%◌, ◌++◌, ◌≡◌, ◌≤◌, drop, ◌<◌, ◌^◌, length}
 use Rattle.dw_text.specs.Numbers.{hex}
 use Rattle.dw_text.proofs.Fill.{onto}
 use Rattle.dw_text.proofs.digits.fill_hex.Given as goal
@@ -7,6 +7,7 @@ use Rattle.dw_text.proofs.digits.fill_hex.Given as goal
 abbrev pub invariant-loop-rest : goal.invariant-loop-rest
 invariant-loop-rest l = record {
   some : l.end < l.first + 16;
+  even : (l.first + 16 - l.end) % 2 ≡ 0;
   within : l.first ≤ l.end;
   long : l.end ≤ length l.into;
   small : l.rest < 16 ^ (l.first + 16 - l.end);

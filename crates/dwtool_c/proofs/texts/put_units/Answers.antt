@@ -34,9 +34,9 @@ returns-in-Err c = rw c.in-Err.ensures (put_part _ _ _ _ _ c.units.invariant.so_
 
 pub units-preserved : goal.units-preserved
 units-preserved c = record {
-  same = c.append_text.ensures.same ∙ c.units.invariant.same;
+  same = c.put_text.ensures.same ∙ c.units.invariant.same;
   so_far =
-      let gained = subst (λ u. Gained c.clear.new.self.items c.append_text.new.out.items (unit_text c.args.command u c.units.unit)) c.units.invariant.same c.in-Ok.ensures.text in
+      let gained = subst (λ u. Gained c.clear.new.self.items c.put_text.new.out.items (unit_text c.args.command u c.units.unit)) c.units.invariant.same c.in-Ok.ensures.text in
       put_next _ _ _ c.as_slice.result.now _ _ _ _ _ c.units.invariant.so_far
       (unit_next _ c.units.unit _ (c.count-unit-end.result - (c.units.unit + 1)) _ _ _ (omega arith) c.clear.ensures.items gained c.as_slice.ensures.value)
       c.in-Ok-put_behind.ensures;

@@ -11,7 +11,7 @@ unreachable-requires g c =
 pub returns-clause-steps : goal.returns-clause-steps
 returns-clause-steps g c knows =
     zero_sum c.dump.new.seats.items c.as_slice.result.now c.steps_of-steps.result c.steps_of-steps.ensures c.as_slice.ensures.value
-    (no_steps (sections_in c.args.handle.now) c.args.pass c.in_ok-seats.seats.items c.dump.new.seats.items c.in-Ok-Whole.ensures.reads c.requires.none c.in_ok-seats.ensures.fronts c.in_ok-seats.ensures.zero knows)
+    (no_steps (sections_in c.args.handle.now) c.args.pass c.in_ok-seats.seats.items c.dump.new.seats.items c.dump.ensures.counts c.requires.none c.in_ok-seats.ensures.fronts c.in_ok-seats.ensures.zero knows)
 
 pub returns-clause-holds : goal.returns-clause-holds
 returns-clause-holds g c =

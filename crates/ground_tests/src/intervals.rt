@@ -18,6 +18,18 @@ const INTERVALS: [Interval; 9] = [
     },
 ];
 
+/// None of them lies behind one before it.
+const DESCENDING: [Interval; 8] = [
+    Interval { low: 64, high: 84 },
+    Interval { low: 56, high: 76 },
+    Interval { low: 48, high: 68 },
+    Interval { low: 40, high: 60 },
+    Interval { low: 32, high: 52 },
+    Interval { low: 24, high: 44 },
+    Interval { low: 16, high: 36 },
+    Interval { low: 8, high: 28 },
+];
+
 #[test]
 fn the_first_of_overlapping_intervals_is_found(rt: HostRuntime) {
     let index = IntervalIndex::build(rt.alloc(), &INTERVALS).expect(&rt, "memory");
@@ -35,6 +47,19 @@ fn the_first_of_overlapping_intervals_is_found(rt: HostRuntime) {
     assert_eq!(rt; index.first(44), None);
     assert_eq!(rt; index.first(u64::MAX - 1), Some(8));
     assert_eq!(rt; index.first(u64::MAX), None);
+}
+
+#[test]
+fn intervals_that_descend_and_overlap_are_found(rt: HostRuntime) {
+    let index = IntervalIndex::build(rt.alloc(), &DESCENDING).expect(&rt, "memory");
+    assert_eq!(rt; index.first(7), None);
+    assert_eq!(rt; index.first(8), Some(7));
+    assert_eq!(rt; index.first(16), Some(6));
+    assert_eq!(rt; index.first(35), Some(4));
+    assert_eq!(rt; index.first(63), Some(1));
+    assert_eq!(rt; index.first(64), Some(0));
+    assert_eq!(rt; index.first(83), Some(0));
+    assert_eq!(rt; index.first(84), None);
 }
 
 #[test]

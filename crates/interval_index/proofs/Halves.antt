@@ -1,44 +1,28 @@
--- Intervals laid out half by half.
-use Rattle.std.proofs.Common.{◌≡◌, ◌+◌, ◌-◌, ◌≤◌, ◌∙◌, ℕ, suc, Bool, true, false, cond, List, [], ◌∷◌, ◌++◌, length, take, drop, Option, Some, None, Result, Ok, Err, IfOk, refl, sym, ap, subst, length-drop, arith}
-use Rattle.std.specs.Option.{option_or}
+-- Intervals laid out in two parts.
+use Rattle.std.proofs.Common.{◌≡◌, ◌-◌, ◌∙◌, ℕ, List, length, take, drop, Option, None, Result, Ok, Err, IfOk, sym, ap, subst, length-drop}
 use Rattle.std.proofs.Math.Seq.{take-length}
-use Rattle.std.proofs.lemmas.List.{take-append-drop, length-take-le}
+use Rattle.std.proofs.lemmas.List.{take-append-drop}
 use Rattle.interval_index.specs.declared.interval.Interval.{Interval}
 use Rattle.interval_index.specs.declared.boundaries.Boundary.{Boundary}
-use Rattle.interval_index.specs.Intervals.{has, first_interval_from}
+use Rattle.interval_index.specs.Intervals.{lesser, least_with}
 use Rattle.interval_index.specs.Boundaries.{Lays, Merges, first_covering}
-
-append_by : (test : Bool) (k : ℕ) (all xs ys : Option ℕ) → all ≡ option_or xs ys → cond test (Some k) all ≡ option_or (cond test (Some k) xs) ys
-append_by true k all xs ys e = refl
-append_by false k all xs ys e = e
-
-first_append : (k : ℕ) (xs ys : List Interval) (n : ℕ) → first_interval_from k (xs ++ ys) n ≡ option_or (first_interval_from k xs n) (first_interval_from (k + length xs) ys n)
-first_append k [] ys n = let e : k ≡ k + 0 = omega arith in ap (λ (m : ℕ). first_interval_from m ys n) e
-first_append k (x ∷ xs) ys n =
-    let e : suc k + length xs ≡ k + suc (length xs) = omega arith in
-    append_by (has x n) k (first_interval_from (suc k) (xs ++ ys) n) (first_interval_from (suc k) xs n) (first_interval_from (k + suc (length xs)) ys n)
-    (first_append (suc k) xs ys n ∙ ap (λ (m : ℕ). option_or (first_interval_from (suc k) xs n) (first_interval_from m ys n)) e)
+use Rattle.interval_index.proofs.Lesser.{least_append}
 
 rest_all : {X : Type 0} (m : ℕ) (xs : List X) → take (length xs - m) (drop m xs) ≡ drop m xs
 rest_all m xs = ap (λ (n : ℕ). take n (drop m xs)) (sym (length-drop m xs)) ∙ take-length (drop m xs)
 
 -- what lays out the halves, merged, lays out the whole
-halves_lay : (k m : ℕ) (intervals : List Interval) (first second merged : List Boundary) → m ≤ length intervals
-    → Lays k (take m intervals) first → Lays (k + m) (drop m intervals) second
-    → Merges (record { first = first; first_owner = None; second = second; second_owner = None }) merged → Lays k intervals merged
-halves_lay k m intervals first second merged within one other both = record {
-  ascends = both.ascends 0 one.ascends other.ascends;
-  first = λ n. both.owner n ∙ ap (λ (x : Option ℕ). option_or x (first_covering second n)) (one.first n) ∙ ap (λ (x : Option ℕ). option_or (first_interval_from k (take m intervals) n) x) (other.first n)
-      ∙ ap (λ (j : ℕ). option_or (first_interval_from k (take m intervals) n) (first_interval_from (k + j) (drop m intervals) n)) (sym (length-take-le m intervals within))
-      ∙ sym (first_append k (take m intervals) (drop m intervals) n)
-      ∙ ap (λ (xs : List Interval). first_interval_from k xs n) (take-append-drop m intervals);
+pub halves_lay : {V E : Type 0} (items : V → List Boundary) (is : List Interval) (m : ℕ) (numbers : List ℕ) (first second one other : List Boundary) (merged : Result V E)
+    → one ≡ first → other ≡ second → Lays is (take m numbers) first → Lays is (take (length numbers - m) (drop m numbers)) second
+    → IfOk merged (λ v. Merges (record { first = one; first_owner = None; second = other; second_owner = None }) (items v)) → IfOk merged (λ v. Lays is numbers (items v))
+halves_lay items is m numbers first second one other (Ok v) e f g h both = record {
+  ascends = both.ascends 0 (subst (Lays is (take m numbers)) (sym e) g).ascends (subst (Lays is (take (length numbers - m) (drop m numbers))) (sym f) h).ascends;
+  first = λ n. both.owner n
+      ∙ ap (λ (l : List Boundary). lesser (first_covering l n) (first_covering other n)) e
+      ∙ ap (λ (l : List Boundary). lesser (first_covering first n) (first_covering l n)) f
+      ∙ ap (λ (x : Option ℕ). lesser x (first_covering second n)) (g.first n)
+      ∙ ap (lesser (least_with is (take m numbers) n)) (h.first n ∙ ap (λ (ks : List ℕ). least_with is ks n) (rest_all m numbers))
+      ∙ sym (least_append is (take m numbers) (drop m numbers) n)
+      ∙ ap (λ (ks : List ℕ). least_with is ks n) (take-append-drop m numbers);
 }
-
--- the same of a merge that may want memory
-pub whole_laid : {V E : Type 0} (items : V → List Boundary) (k m : ℕ) (intervals : List Interval) (first second one other : List Boundary) (merged : Result V E) → m ≤ length intervals
-    → one ≡ first → other ≡ second → Lays k (take m intervals) first → Lays (k + m) (take (length intervals - m) (drop m intervals)) second
-    → IfOk merged (λ v. Merges (record { first = one; first_owner = None; second = other; second_owner = None }) (items v)) → IfOk merged (λ v. Lays k intervals (items v))
-whole_laid items k m intervals first second one other (Ok v) within e f h g both =
-    halves_lay k m intervals one other (items v) within (subst (Lays k (take m intervals)) (sym e) h)
-    (subst (λ (xs : List Interval). Lays (k + m) xs other) (rest_all m intervals) (subst (Lays (k + m) (take (length intervals - m) (drop m intervals))) (sym f) g)) both
-whole_laid items k m intervals first second one other (Err e) within _ _ _ _ _ = tt
+halves_lay items is m numbers first second one other (Err e) _ _ _ _ _ = tt

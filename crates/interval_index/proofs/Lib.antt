@@ -1,2 +1,5 @@
 pub mod Bisection
 pub mod Halves
+pub mod Lesser
+pub mod Numbers
+pub mod Piling

@@ -1,9 +1,8 @@
 -- Intervals laid out as boundaries in ascending order. These are rules of our own.
 use Rattle.std.specs.Prelude.{◌≡◌, ◌≤◌, ℕ, Bool, true, false, List, [], ◌∷◌, Option, None, nat_le, nat_lt, if◌then◌else◌}
-use Rattle.std.specs.Option.{option_or}
 use Rattle.interval_index.specs.declared.interval.Interval.{Interval}
 use Rattle.interval_index.specs.declared.boundaries.Boundary.{Boundary}
-use Rattle.interval_index.specs.Intervals.{first_interval_from}
+use Rattle.interval_index.specs.Intervals.{lesser, least_with}
 
 -- The owner of a number: that of the last boundary at or below it, where all before the first
 -- boundary have the owner given.
@@ -20,10 +19,11 @@ abbrev pub AscendsBy : {X : Type 0} → (X → ℕ) → ℕ → List X → Type 
 AscendsBy number low [] = Unit
 AscendsBy number low (x ∷ others) = (low ≤ number x) × AscendsBy number (number x) others
 
--- Boundaries lay intervals out, which are numbered from `k` on.
-pub record Lays (k : ℕ) (intervals : List Interval) (boundaries : List Boundary) : Type 0 where
+-- Boundaries lay out the intervals with these numbers.
+pub record Lays (intervals : List Interval) (numbers : List ℕ) (boundaries : List Boundary)
+    : Type 0 where
   pub ascends : AscendsBy (λ (b : Boundary). b.from) 0 boundaries
-  pub first : (n : ℕ) → first_covering boundaries n ≡ first_interval_from k intervals n
+  pub first : (n : ℕ) → first_covering boundaries n ≡ least_with intervals numbers n
 
 -- What is left of two lists of boundaries, with the owner on each side before its next boundary.
 pub record SidesView : Type 0 where
@@ -38,10 +38,10 @@ comes_first [] second = false
 comes_first (b ∷ others) [] = true
 comes_first (b ∷ others) (c ∷ rest) = nat_le b.from c.from
 
--- One list for both sides: an owner on the first side goes before one on the second.
+-- One list for both sides: of two owners the one with the lower number counts.
 pub record Merges (sides : SidesView) (merged : List Boundary) : Type 0 where
-  pub owner : (n : ℕ) → owner_at (option_or sides.first_owner sides.second_owner) merged n
-      ≡ option_or (owner_at sides.first_owner sides.first n)
+  pub owner : (n : ℕ) → owner_at (lesser sides.first_owner sides.second_owner) merged n
+      ≡ lesser (owner_at sides.first_owner sides.first n)
       (owner_at sides.second_owner sides.second n)
   pub ascends : (low : ℕ) → AscendsBy (λ (b : Boundary). b.from) low sides.first
       → AscendsBy (λ (b : Boundary). b.from) low sides.second

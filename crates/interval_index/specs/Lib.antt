@@ -1,2 +1,3 @@
 pub mod Boundaries
 pub mod Intervals
+pub mod Piles

@@ -1,6 +1,7 @@
 //! Intervals in an order of their own, bisected.
 
 ghost use Rattle.std.specs.Prelude.{◌≡◌, ℕ, IfOk};
+ghost use Rattle.std.specs.List.{range_with_len};
 ghost use Rattle.interval_index.specs.Intervals.{first_with};
 ghost use Rattle.interval_index.specs.Boundaries.{first_covering};
 
@@ -8,6 +9,20 @@ use crate::boundaries::{Boundary, first_covering, lay};
 use crate::interval::Interval;
 use std::alloc::{AllocError, Global};
 use std::marker::Model;
+
+/// How many piles of intervals are made before what is left is laid out by halves.
+const PILES: u32 = 4;
+
+/// The numbers from 0 up to, and without, `count`.
+fn numbers_below(alloc: Global, count: usize) -> Result<Vec<usize>, AllocError>
+    ensures { IfOk result (λ v. v.items ≡ range_with_len 0 count) }
+{
+    let mut numbers = Vec::with_capacity(alloc, count)?;
+    for number in 0..count {
+        numbers.push(number)?;
+    }
+    Ok(numbers)
+}
 
 /// Finds, in a list of intervals, the first one that has a number.
 ///
@@ -38,7 +53,8 @@ impl IntervalIndex {
         ensures { IfOk result (λ index. (n : ℕ)
             → first_covering index n ≡ first_with intervals.now n) }
     {
-        let boundaries = lay(alloc, 0, intervals)?;
+        let numbers = numbers_below(alloc, intervals.len())?;
+        let boundaries = lay(alloc, intervals, &numbers, PILES)?;
         Ok(IntervalIndex { boundaries })
     }
 

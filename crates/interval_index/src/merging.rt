@@ -1,7 +1,7 @@
 //! Two lists of boundaries merged into one.
 
 ghost use Rattle.std.specs.Prelude.{◌≡◌, ◌+◌, ◌<◌, ◌∷◌, List, [], true, false, length, IfOk, IfSome, MatchOption};
-ghost use Rattle.std.specs.Option.{option_or};
+ghost use Rattle.interval_index.specs.Intervals.{lesser};
 ghost use Rattle.interval_index.specs.Boundaries.{Merges, SidesView, comes_first};
 
 use crate::boundaries::Boundary;
@@ -9,7 +9,6 @@ use std::alloc::{AllocError, Global};
 use std::marker::Model;
 
 /// What is left of two lists of boundaries, with the owner on each side before its next boundary.
-/// An owner on the first side goes before one on the second.
 #[derive(Drop)]
 struct Sides<'a> {
     first: &'a [Boundary],
@@ -122,13 +121,14 @@ fn pass_second(sides: &mut Sides<'_>) -> Boundary
     }
 }
 
-/// Who owns the numbers before the next boundary.
+/// Who owns the numbers before the next boundary: of two owners the one with the lower number.
 #[inline]
 fn owner_of(sides: &Sides<'_>) -> Option<usize>
-    ensures { result ≡ option_or sides.now.first_owner sides.now.second_owner }
+    ensures { result ≡ lesser sides.now.first_owner sides.now.second_owner }
 {
-    match sides.first_owner {
-        Some(owner) => Some(owner),
-        None => sides.second_owner,
+    match (sides.first_owner, sides.second_owner) {
+        (Some(one), Some(other)) => Some(one.min(other)),
+        (Some(one), None) => Some(one),
+        (None, other) => other,
     }
 }

@@ -1,5 +1,5 @@
-use Rattle.std.proofs.Common.{length}
+use Rattle.std.proofs.Common.{◌+◌, length}
 use Rattle.interval_index.proofs.boundaries.+lay.Given as goal
 
 abbrev pub decreases-lay : goal.decreases-lay
-decreases-lay l = length l.intervals.now
+decreases-lay l = l.piles + length l.numbers.now

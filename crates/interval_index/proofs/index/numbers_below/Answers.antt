@@ -1,0 +1,7 @@
+use Rattle.std.proofs.Common.{◌∙◌, ◌∷◌, ◌++◌, [], ap, sym, arith}
+use Rattle.interval_index.proofs.Numbers.{range_more}
+use Rattle.interval_index.proofs.index.numbers_below.Goals as goal
+
+pub loop-number-preserved : goal.loop-number-preserved
+loop-number-preserved c =
+    c.in_ok-push.ensures.items ∙ ap (λ l. l ++ c.loop-number.number ∷ []) c.loop-number.invariant ∙ sym (range_more 0 c.loop-number.number c.loop-number.number (omega arith))

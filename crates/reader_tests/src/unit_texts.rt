@@ -1,4 +1,4 @@
-//! The texts of a small unit with a range list and a location list, from entries in memory and as they are read.
+//! The texts of a small unit with a range list and a location list.
 
 ghost use Rattle.std.specs.Prelude.{◌≡◌, ◌<◌, ◌^◌, length};
 ghost use Rattle.elf_sections.specs.Shapes.{sections_view, AreShort};
@@ -9,12 +9,12 @@ use abbrev_decl::{Scanner, Steps};
 use bumpalo::Bump;
 use dw_fields::Fault;
 use elf_sections::Sections;
-use entry_tree::{read_entries, root_facts};
+use entry_tree::root_facts;
 use form_values::UnitFacts;
 use std::alloc::Global;
 use std::test::Fail;
 use unit_headers::{UnitHeader, UnitRefusal};
-use unit_text::{LastLists, stream_lists, stream_unit, write_lists, write_unit};
+use unit_text::{LastLists, stream_lists, stream_unit};
 
 /// Code 1: compile_unit with children, a name as string and the offset of its ranges. Code 2: variable with the
 /// offset of its locations.
@@ -85,32 +85,6 @@ fn facts_of(sections: &Sections<'_>, header: &UnitHeader) -> Result<UnitFacts, F
     root_facts(&mut scanner, header, sections, &mut Steps::start(()))
 }
 
-/// The texts from the entries in memory.
-fn write_texts(
-    alloc: Global,
-    sections: &Sections<'_>,
-    header: &UnitHeader,
-    facts: &UnitFacts,
-) -> Result<Texts, UnitRefusal>
-    requires unit { IsUnitOf (sections_view sections.now) header.now }
-    requires short { AreShort (sections_view sections.now) }
-{
-    let arena = Bump::new(alloc);
-    let mut scanner = Scanner::new(sections.abbrev);
-    let entries = read_entries(
-        &arena,
-        &mut scanner,
-        header,
-        sections,
-        &mut Steps::start(()),
-    )?;
-    let mut unit = Vec::new(alloc);
-    write_unit(alloc, header, entries, sections, facts, &mut unit)?;
-    let mut lists = Vec::new(alloc);
-    write_lists(alloc, sections, header, facts, entries, &mut lists)?;
-    Ok(Texts { unit, lists })
-}
-
 /// The texts as the entries are read.
 fn stream_texts(
     alloc: Global,
@@ -152,15 +126,12 @@ fn stream_texts(
 }
 
 #[test]
-fn entries_in_memory_have_the_texts_of_a_stream(rt: HostRuntime) -> Result<(), Fail> {
+fn a_small_unit_has_its_texts(rt: HostRuntime) -> Result<(), Fail> {
     let alloc = rt.alloc();
     let sections = sections_of(&INFO, &ABBREV, &RANGES, &LOCATIONS);
     let facts = facts_of(&sections, &HEADER).expect(&rt, "facts");
-    let written = write_texts(alloc, &sections, &HEADER, &facts).expect(&rt, "texts");
-    assert_eq!(rt; written.unit.as_slice(), UNIT_TEXT.as_bytes());
-    assert_eq!(rt; written.lists.as_slice(), LISTS_TEXT.as_bytes());
-    let streamed = stream_texts(alloc, &sections, &HEADER, &facts).expect(&rt, "texts");
-    assert_eq!(rt; streamed.unit.as_slice(), written.unit.as_slice());
-    assert_eq!(rt; streamed.lists.as_slice(), written.lists.as_slice());
+    let texts = stream_texts(alloc, &sections, &HEADER, &facts).expect(&rt, "texts");
+    assert_eq!(rt; texts.unit.as_slice(), UNIT_TEXT.as_bytes());
+    assert_eq!(rt; texts.lists.as_slice(), LISTS_TEXT.as_bytes());
     Ok(())
 }

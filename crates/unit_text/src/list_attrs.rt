@@ -7,8 +7,7 @@ use abbrev_decl::Attrs;
 use dw_numbers::attribute;
 use entry_tree::AttrNames;
 
-/// The attributes that may have a range list or a location list (DWARF 5 sections 2.6.2 and 2.17.3): all
-/// that `write_lists` looks at.
+/// The attributes that may have a range list or a location list (DWARF 5 sections 2.6.2 and 2.17.3).
 #[derive(Clone, Copy, Debug)]
 pub(crate) struct ListAttrs;
 

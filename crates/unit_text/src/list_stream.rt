@@ -21,17 +21,18 @@ use std::alloc::Global;
 use std::mem;
 use unit_headers::{UnitHeader, UnitRefusal};
 
-/// Reads the entries of a unit and appends their lists, as [`crate::write_lists`] does. A list that the attribute before
-/// named too is not read again, where the units' bases and lowest addresses are the same; `lists` goes from unit
-/// to unit for that.
+/// Reads the entries of a unit and appends their lists, in the order of the entries and of their attributes (DWARF 5
+/// sections 2.6.2 and 2.17.3). A list that the attribute before named too is not read again, where the units' bases and
+/// lowest addresses are the same; `lists` goes from unit to unit for that.
 ///
 /// The header is that of a unit of these sections, `lists` are of them too, the facts are the unit's, and the source's section is
 /// `.debug_abbrev`. `decls` is asked for the codes of the unit's entries, and for no other. Of the entries only the declarations
 /// lie in the arena.
 ///
 /// # Errors
-/// Those of [`entry_tree::read_entries`] first, wherever the entry stands; else those of [`crate::write_lists`]. Want of
-/// memory may come at any time. `out` is then as it was.
+/// Those of [`entry_tree::read_entries`] first, wherever the entry stands; else the first refusal of a list: at the
+/// attribute where its value can't be resolved, otherwise where the list can't be read. Want of memory may come at any
+/// time. `out` is then as it was.
 pub fn stream_lists<'a, 'f: 'a, D: Decls<'f>, L>(
     alloc: Global,
     lists: &mut LastLists<'f>,

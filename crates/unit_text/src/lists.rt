@@ -1,15 +1,15 @@
-//! The range lists and location lists of a unit's entries.
+//! The range lists and location lists of attributes (DWARF 5 sections 2.6.2 and 2.17.3).
 
 ghost use Rattle.std.specs.Prelude.{◌≡◌, ◌++◌, ◌∷◌, [], IsTrue, Ok, map};
 ghost use Rattle.dw_fields.specs.Reading.{IsAddressSize};
 ghost use Rattle.dw_text.specs.Added.{Adds};
 ghost use Rattle.elf_sections.specs.Shapes.{sections_view};
-ghost use Rattle.entry_tree.specs.Views.{attr_view, entry_view};
+ghost use Rattle.entry_tree.specs.Views.{attr_view};
 ghost use Rattle.form_values.specs.View.{raw_view, is_list};
 ghost use Rattle.range_lists.specs.Locations.{location_view};
-ghost use Rattle.unit_text.specs.Pieces.{Puts, Writes, texts_of};
-ghost use Rattle.unit_text.specs.UnitView.{unit_of, unit_view};
-ghost use Rattle.unit_text.specs.Lists.{is_range_list, is_location_list, list_place, range_text, range_line, range_list_text, location_list_text, bounds_text, expression_text, location_line, ranges_title, locations_title, ranges_text, locations_text, attr_lists, entry_lists, lists_text};
+ghost use Rattle.unit_text.specs.Pieces.{Puts, texts_of};
+ghost use Rattle.unit_text.specs.UnitView.{unit_view};
+ghost use Rattle.unit_text.specs.Lists.{is_range_list, is_location_list, list_place, range_text, range_line, range_list_text, location_list_text, bounds_text, expression_text, location_line, ranges_title, locations_title, ranges_text, locations_text, attr_lists};
 
 use crate::last_lists::LastLists;
 use crate::list_attrs::is_location_attribute;
@@ -18,107 +18,12 @@ use crate::unit::Unit;
 use dw_fields::Fault;
 use dw_names::push_attribute_after;
 use dw_numbers::attribute;
-use dw_text::{keep_whole, push_decimal_after, push_hex_after, push_hex_bytes_after, push_text};
-use elf_sections::Sections;
-use entry_tree::{Attr, Entry};
-use form_values::{Raw, UnitFacts, refused_at, resolve_list};
+use dw_text::{push_decimal_after, push_hex_after, push_hex_bytes_after, push_text};
+use entry_tree::Attr;
+use form_values::{Raw, refused_at, resolve_list};
 use range_lists::{Location, Range};
 use std::alloc::{AllocError, Global};
-use unit_headers::{UnitHeader, UnitRefusal};
-
-/// Appends the lists of a unit's entries, in the order of the entries and of their attributes. The
-/// entries and the facts are those of this unit, whose address size is 2, 4 or 8 (DWARF 5 sections 2.6.2
-/// and 2.17.3).
-///
-/// # Errors
-/// The first refusal of a list: at the attribute where its value can't be resolved, otherwise where the
-/// list can't be read. Want of memory may come at any time. `out` is then as it was.
-#[tactic(auto, unfolding(crate::specs::Lists::lists_text))]
-pub fn write_lists(
-    alloc: Global,
-    sections: &Sections<'_>,
-    header: &UnitHeader,
-    facts: &UnitFacts,
-    entries: &[Entry<'_>],
-    out: &mut Vec<u8>,
-) -> Result<(), UnitRefusal>
-    requires { IsAddressSize header.now.address_size }
-    ensures { Writes result out.old.items out.new.items
-        (lists_text (unit_of (sections_view sections.now) header.now facts.now)
-        (map entry_view entries.now)) }
-{
-    let mut lists = LastLists::new(sections);
-    let unit = Unit {
-        sections,
-        header,
-        facts,
-    };
-    let before = out.len();
-    let done = put_lists(out, alloc, &mut lists, &unit, entries);
-    keep_whole(out, before, done)
-}
-
-fn put_lists(
-    out: &mut Vec<u8>,
-    alloc: Global,
-    lists: &mut LastLists<'_>,
-    unit: &Unit<'_, '_>,
-    entries: &[Entry<'_>],
-) -> Result<(), UnitRefusal>
-    requires size { IsAddressSize unit.now.header.now.address_size }
-    requires sections { lists.old ≡ sections_view unit.now.sections.now }
-    ensures text { Puts result out.old.items out.new.items
-        (texts_of (entry_lists (unit_view unit.now)) (map entry_view entries.now)) }
-    ensures same { lists.new ≡ lists.old }
-{
-    for entry in entries {
-        match put_entry_lists(out, alloc, lists, unit, entry) {
-            Ok(()) => {}
-            Err(refusal) => return Err(refusal),
-        }
-    }
-    Ok(())
-}
-
-#[tactic(auto, unfolding(crate::specs::Lists::entry_lists))]
-fn put_entry_lists(
-    out: &mut Vec<u8>,
-    alloc: Global,
-    lists: &mut LastLists<'_>,
-    unit: &Unit<'_, '_>,
-    entry: &Entry<'_>,
-) -> Result<(), UnitRefusal>
-    requires size { IsAddressSize unit.now.header.now.address_size }
-    requires sections { lists.old ≡ sections_view unit.now.sections.now }
-    ensures text { Puts result out.old.items out.new.items
-        (entry_lists (unit_view unit.now) (entry_view entry.now)) }
-    ensures same { lists.new ≡ lists.old }
-{
-    put_attrs_lists(out, alloc, lists, unit, entry.place, entry.attrs)
-}
-
-fn put_attrs_lists(
-    out: &mut Vec<u8>,
-    alloc: Global,
-    lists: &mut LastLists<'_>,
-    unit: &Unit<'_, '_>,
-    place: u64,
-    attrs: &[Attr<'_>],
-) -> Result<(), UnitRefusal>
-    requires size { IsAddressSize unit.now.header.now.address_size }
-    requires sections { lists.old ≡ sections_view unit.now.sections.now }
-    ensures text { Puts result out.old.items out.new.items
-        (texts_of (attr_lists (unit_view unit.now) place) (map attr_view attrs.now)) }
-    ensures same { lists.new ≡ lists.old }
-{
-    for attr in attrs {
-        match put_list(out, alloc, lists, unit, place, attr) {
-            Ok(()) => {}
-            Err(refusal) => return Err(refusal),
-        }
-    }
-    Ok(())
-}
+use unit_headers::UnitRefusal;
 
 /// Appends the list of an attribute, if it has one.
 #[tactic(auto, unfolding(crate::specs::Lists::attr_lists))]

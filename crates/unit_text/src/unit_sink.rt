@@ -10,9 +10,9 @@ ghost use Rattle.unit_text.specs.UnitStreams.{AddedPiece, made_text};
 ghost use Rattle.unit_text.specs.UnitView.{unit_view};
 ghost use Rattle.unit_text.specs.Units.{attr_text, entry_line};
 
+use crate::entry_line::push_entry_line;
 use crate::pieces::as_put;
 use crate::unit::Unit;
-use crate::units::push_entry_line;
 use crate::values::put_attr;
 use dw_fields::Fault;
 use dw_text::LineBuffer;

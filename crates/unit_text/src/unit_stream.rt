@@ -20,15 +20,18 @@ use std::alloc::Global;
 use std::mem;
 use unit_headers::{UnitHeader, UnitRefusal};
 
-/// Reads the entries of a unit and puts the unit's text, which is that of [`crate::write_unit`], in the place of what `out` held. The
-/// answer is how many entries the unit has. Of the entries only the declarations lie in the arena.
+/// Reads the entries of a unit and puts the unit's text in the place of what `out` held: its line, and for each entry a
+/// line with its place, depth and tag, and a line for each attribute with its name and its value, resolved. The answer
+/// is how many entries the unit has. Of the entries only the declarations lie in the arena.
 ///
 /// The header is that of a unit of these sections, the facts are the unit's, and the source's section is
 /// `.debug_abbrev`. `decls` is asked for the codes of the unit's entries, and for no other.
 ///
 /// # Errors
-/// Those of [`entry_tree::read_entries`] first, wherever the entry stands; else where a value can't be resolved, as
-/// [`crate::write_unit`] says. Want of memory may come at any time. `out` is then empty.
+/// Those of [`entry_tree::read_entries`] first, wherever the entry stands; else where a value can't be resolved, at the
+/// attribute's place: the first in the order of entries and attributes, with the causes of
+/// [`form_values::resolve_text`], [`form_values::resolve_address`] and [`form_values::resolve_list`]. Want of memory
+/// may come at any time. `out` is then empty.
 pub fn stream_unit<'a, 'f: 'a, D: Decls<'f>, L>(
     alloc: Global,
     arena: &'a Bump,

@@ -7,7 +7,7 @@ AreRows rows = (n : ℕ) → n < length rows → get_or (get_or rows n []) 0 0 �
 
 -- the name in a row; none where its length is 0
 unfoldable pub row_name : List ℕ → Option (List ℕ)
-row_name row = if get_or row 0 0 == 0 then None else Some (drop (32 - get_or row 0 0) row)
+row_name bytes = if get_or bytes 0 0 == 0 then None else Some (drop (32 - get_or bytes 0 0) bytes)
 
 -- the name in the row of a number; none where it has no row
 unfoldable pub name_in : List (List ℕ) → ℕ → Option (List ℕ)

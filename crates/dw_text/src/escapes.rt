@@ -1,5 +1,5 @@
 //! Escaped text.
-ghost use Rattle.std.specs.Prelude.{◌≡◌, ◌+◌, ◌≤◌, IsTrue, length};
+ghost use Rattle.std.specs.Prelude.{◌≡◌, ◌+◌, ◌<◌, ◌≤◌, IsTrue, false, get_or, length};
 ghost use Rattle.dw_text.specs.Added.{Adds, labelled};
 ghost use Rattle.dw_text.specs.Escapes.{IsPlainFrom, escape, escaped, is_plain};
 
@@ -58,6 +58,7 @@ pub fn plain_end(text: &[u8], from: usize) -> usize
     ensures begins { from ≤ result }
     ensures within { result ≤ length text.now }
     ensures plain { IsPlainFrom text.now from result }
+    ensures stops { result < length text.now → is_plain (get_or text.now result 0) ≡ false }
 {
     let mut end = plain_blocks(text, from);
     while end < text.len() && is_plain(text[end]) {

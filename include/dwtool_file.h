@@ -86,7 +86,9 @@ enum { DWTOOL_STOPPED = 4 };
 static inline int dwtool_each_unit(const dwtool_file *file, uint32_t command, dwtool_sink *sink, void *context,
                                    dwtool_refusal *refusal) {
   static const dwtool_refusal nothing = {0, 0, 0, 0, 0};
-  size_t room = 1 << 16, size = 0;
+  /* the text of a unit has seldom more bytes than the file, and memory that isn't written costs nothing: so no unit is
+   * read twice to learn its length */
+  size_t least = 1 << 16, room = file->size > least ? file->size : least, size = 0;
   uint8_t *text = (uint8_t *)malloc(room);
   int status = text == NULL ? DWTOOL_NO_MEMORY : DWTOOL_DONE;
   uint32_t unit = 0;

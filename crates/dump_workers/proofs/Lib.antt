@@ -9,6 +9,7 @@ pub mod ServingLaws
 pub mod GatheringLaws
 pub mod WindowLaws
 pub mod PrintLemmas
+pub mod PrinterLaws
 pub mod WindowSums
 pub mod KeyLists
 pub mod PassLaws

@@ -8,3 +8,4 @@ pub mod Readings
 pub mod Seats
 pub mod Passes
 pub mod Windows
+pub mod Printers

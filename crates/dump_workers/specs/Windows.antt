@@ -69,6 +69,16 @@ pub record LeavesServed (h : HandleView) (d : DrawsView) (window : ℕ) (old new
   pub counts : CountsUnits (sections_in h) old.pass old.steps new.steps
   pub served : HasServed d (sections_in h) window old new.pass old.work new.work
 
+-- each of these seats may serve the window
+abbrev pub EachMayServe : HandleView → DrawsView → ℕ → List DumpSeatView → Type 0
+EachMayServe h d window seats = (i : ℕ) (seat : DumpSeatView) → i < length seats
+    → MayServe h d window (slice_index_or seats i seat)
+
+-- as many seats as before, and each of them has served it, or had no memory for it
+pub record EachServed (h : HandleView) (d : DrawsView) (window : ℕ) (old new : List DumpSeatView) : Type 0 where
+  pub size : length new ≡ length old
+  pub each : (i : ℕ) (seat : DumpSeatView) → i < length old → LeavesServed h d window (slice_index_or old i seat) (slice_index_or new i seat)
+
 -- # All workers
 
 -- a draw seat that was just split off

@@ -2,17 +2,20 @@
 //!
 //! [`dump`] writes the text of every unit to a sink, in the units' order. Each worker has a seat with a pass
 //! of its own over the opened file. The workers draw units one by one, 256 units at a time, and read them
-//! beside one another; then the texts go out in order, each by one `write_all`. Whatever the number of
-//! workers and whichever unit each of them draws, the bytes, or the first refused unit, are those of
-//! `dump_of` in `specs/Dumps.antt`, which reads unit after unit anew.
+//! beside one another; the texts go out in order, each by one `write_all`: the worker of the first seat writes
+//! what has come to its turn between the units that it reads itself. Whatever the number of workers and
+//! whichever unit each of them draws, the bytes, or the first refused unit, are those of `dump_of` in `specs/Dumps.antt`, which reads unit after unit anew.
 #![tactic(auto)]
 
 mod alone;
+mod desk;
 mod ends;
 mod file_dump;
+mod handing;
 mod hands;
 mod laws;
 mod passes;
+mod printer;
 mod printing;
 mod publish;
 mod reading;

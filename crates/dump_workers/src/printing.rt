@@ -21,7 +21,7 @@ use dw_outside::{Sink, WriteStop, write_all};
 use handle_cache::Handle;
 
 /// What was read of a unit: the first reading that is of it.
-fn find_reading(readings: &[Reading], unit: u32) -> &UnitRead
+pub(crate) fn find_reading(readings: &[Reading], unit: u32) -> &UnitRead
     requires some { 0 < occurrences unit (units_read readings.now) }
     ensures found { (s : SectionsView) (window : ℕ) → All (IsReading s window) readings.now
         → IsRead s unit result.now }
@@ -47,57 +47,4 @@ pub(crate) fn print_text<O: Sink>(text: &[u8], out: &mut O) -> Result<(), DumpFa
         Err(WriteStop::Failed) => Err(DumpFault::WriteFault),
         Err(WriteStop::OutOfMemory) => Err(DumpFault::OutOfMemory),
     }
-}
-
-/// Writes the texts of these units, each by one `write_all`, up to the first that is refused, and counts
-/// their entries.
-///
-/// # Errors
-/// Those of the sink.
-pub(crate) fn print_units<O: Sink>(
-    handle: &Handle<'_>,
-    window: u32,
-    readings: &[Reading],
-    start: u32,
-    end: u32,
-    entries: &mut u64,
-    out: &mut O,
-) -> Result<Option<RefusedUnit>, DumpFault>
-    requires from { WINDOW * window ≡ start }
-    requires order { start ≤ end }
-    requires below { end ≤ WINDOW * (window + 1) }
-    requires inside { end ≤ unit_count (sections_in handle.now).info
-        (sections_in handle.now).order }
-    requires reads { ReadsWindow (sections_in handle.now) window readings.now }
-    requires room { entries.old ≤ start * 2 ^ 32 }
-    ensures printed { Prints result (dump_from (sections_in handle.now) start (end - start))
-        (O.held out.old) (O.held out.new) }
-    ensures entries { result ≡ Ok None → entries.new ≡ entries.old
-        + entries_from (sections_in handle.now) start (end - start) }
-    ensures room { result ≡ Ok None → entries.new ≤ end * 2 ^ 32 }
-    ensures cause { HasCause dump_faults.WriteFault (O.faults out.old) (O.faults out.new) result }
-{
-    'units: for unit in start..end {
-        match find_reading(readings, unit) {
-            UnitRead::Whole {
-                text,
-                entries: count,
-            } => {
-                match print_text(text.as_slice(), out) {
-                    Ok(()) => {}
-                    Err(fault) => return Err(fault),
-                }
-                *entries += u64::from(*count);
-            }
-            // the printing ends at the refused unit before it
-            UnitRead::Skipped => return Ok(None),
-            UnitRead::Refused(fault) => {
-                return Ok(Some(RefusedUnit {
-                    unit,
-                    fault: *fault,
-                }));
-            }
-        }
-    }
-    Ok(None)
 }

@@ -16,6 +16,8 @@ pub enum UnitRead {
     Refused(Fault),
     /// Nothing: a unit of its window before it is refused.
     Skipped,
+    /// Its text, which was handed on.
+    Handed,
 }
 
 /// A unit that was read.

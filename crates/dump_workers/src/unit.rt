@@ -16,7 +16,7 @@ ghost use Rattle.dump_workers.specs.UnitDumps.{entry_count, unit_dump};
 use crate::reading::{Reading, UnitRead};
 use abbrev_decl::Steps;
 use bumpalo::Bump;
-use entry_tree::facts_are_of_the_first_entry;
+use entry_tree::{facts_are_of_the_first_entry, root_facts};
 use form_values::UnitFacts;
 use handle_cache::{CachedWalk, Handle, HandlePass};
 use std::alloc::{AllocError, Global};
@@ -120,7 +120,7 @@ const TEXT_OF_A_BYTE: u64 = 16;
 
 /// An empty text with room for that of a unit, as far as the unit's bytes tell, so that it is seldom outgrown; or with
 /// none where there is no memory for it.
-fn room_for_text(alloc: Global, handle: &Handle<'_>, unit: u32) -> Vec<u8>
+pub(crate) fn room_for_text(alloc: Global, handle: &Handle<'_>, unit: u32) -> Vec<u8>
     requires { unit < unit_count (sections_in handle.now).info (sections_in handle.now).order }
     ensures { result.items ≡ [] }
 {
@@ -134,7 +134,43 @@ fn room_for_text(alloc: Global, handle: &Handle<'_>, unit: u32) -> Vec<u8>
     }
 }
 
-/// Reads a unit: its text, or its first fault.
+/// The same of a unit whose declarations are walked to, without the table.
+///
+/// # Errors
+/// The first fault of the unit, or want of memory.
+#[tactic(auto, unfolding(crate::specs::UnitDumps::unit_dump, crate::specs::UnitDumps::unit_entries, crate::specs::UnitDumps::entry_count, entry_tree::specs::Units::unit_facts, unit_text::specs::UnitStreams::streamed_unit))]
+pub(crate) fn read_anew(
+    alloc: Global,
+    handle: &Handle<'_>,
+    unit: u32,
+    text: &mut Vec<u8>,
+) -> Result<u32, UnitRefusal>
+    requires unit { unit
+        < unit_count (sections_in handle.now).info (sections_in handle.now).order }
+    ensures text { Answers (λ count. text.new.items) result
+        (unit_dump (sections_in handle.now) unit) }
+    ensures entries { IfOk result (λ count. count ≡ entry_count (sections_in handle.now) unit) }
+{
+    let arena = Bump::new(alloc);
+    let mut walker = TableWalker::new(alloc, handle.sections().abbrev);
+    let mut steps = Steps::start(());
+    let header = handle.header(unit)?;
+    let facts = root_facts(&mut walker, &header, handle.sections(), &mut steps)?;
+    let entries = stream_unit(
+        alloc,
+        &arena,
+        &mut walker,
+        &header,
+        handle.sections(),
+        &facts,
+        text,
+        &mut steps,
+    )?;
+    facts_are_of_the_first_entry(handle.sections(), &header);
+    Ok(entries)
+}
+
+/// Reads a unit: its text, in the place of what `text` held, or its first fault.
 ///
 /// # Errors
 /// Want of memory.
@@ -145,6 +181,7 @@ pub(crate) fn read_unit<'f, L>(
     pass: &mut HandlePass<'f>,
     walker: &mut TableWalker<'f>,
     unit: u32,
+    text: Vec<u8>,
     steps: &mut Steps<L>,
 ) -> Result<Reading, AllocError>
     requires belongs { Belongs handle.now pass.old }
@@ -161,7 +198,7 @@ pub(crate) fn read_unit<'f, L>(
     ensures gains { OnOk result (GainsUnits (sections_in handle.now) pass.old pass.new) }
     ensures counts { CountsUnits (sections_in handle.now) pass.old steps.old steps.new }
 {
-    let mut text = room_for_text(alloc, handle, unit);
+    let mut text = text;
     match read_text(alloc, arena, handle, pass, walker, unit, &mut text, steps) {
         Ok(entries) => Ok(Reading {
             unit,

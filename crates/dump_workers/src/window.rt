@@ -9,6 +9,8 @@ ghost use Rattle.dump_workers.specs.FileKeys.{RefusesNone};
 ghost use Rattle.dump_workers.specs.Seats.{DumpSeatView, EachBelongs, EachCounts, EachFollows, EachGains};
 ghost use Rattle.dump_workers.specs.Windows.{NoteWindow, ReadsWindow, StandsBefore};
 
+use crate::desk::Desk;
+use crate::handing::{DumpedFile, Hatch};
 use crate::hands::{gather, hand_out};
 use crate::reading::Reading;
 use crate::refused::FileDraws;
@@ -20,11 +22,18 @@ use std::alloc::{AllocError, Global};
 use std::thread::Threads;
 use unit_draws::DrawSeat;
 
-/// Reads the units of a window, each by the seat that drew it.
+/// Reads the units of a window, each by the seat that drew it. The first seat's worker sits at this desk.
 ///
 /// # Errors
 /// Want of memory.
-pub(crate) fn read_window<'f, R: Threads + Sync, G: Gate + Sync, L: Send>(
+pub(crate) fn read_window<
+    'f,
+    R: Threads + Sync,
+    G: Gate + Sync,
+    N: DumpedFile + Send + Sync,
+    D: Desk<N>,
+    L: Send,
+>(
     rt: &R,
     alloc: Global,
     handle: &Handle<'f>,
@@ -33,7 +42,10 @@ pub(crate) fn read_window<'f, R: Threads + Sync, G: Gate + Sync, L: Send>(
     window: u32,
     first: DrawSeat,
     seats: &mut Vec<DumpSeat<'f, L>>,
+    hatch: &Hatch<N>,
+    desk: &mut D,
 ) -> Result<(DrawSeat, Vec<Reading>), AllocError>
+    requires name { sections_in handle.now ≡ N.sections }
     requires some { 0 < length seats.old.items }
     requires few { length seats.old.items ≤ MOST_WORKERS }
     requires belong { EachBelongs handle.now seats.old.items }
@@ -52,8 +64,9 @@ pub(crate) fn read_window<'f, R: Threads + Sync, G: Gate + Sync, L: Send>(
     ensures counts { EachCounts (sections_in handle.now) seats.old.items seats.new.items }
     ensures noted { OnOk result (RefusesNone (sections_in handle.now)
         → NoteWindow (sections_in handle.now) window seats.new.items) }
+    ensures goes { D.goes desk.old desk.new }
 {
     hand_out(draws, first, seats);
-    serve_all(rt, alloc, handle, draws, gate, window, seats);
+    serve_all(rt, alloc, handle, draws, gate, hatch, window, seats, desk);
     gather(draws, seats)
 }

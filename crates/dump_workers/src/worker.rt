@@ -11,13 +11,15 @@ ghost use Rattle.dump_workers.specs.FileKeys.{CountsUnits, GainsUnits, NotesUnit
 ghost use Rattle.dump_workers.specs.Readings.{IsRead};
 ghost use Rattle.dump_workers.specs.RefusedUnits.{IsBehindRefused};
 ghost use Rattle.dump_workers.specs.Seats.{DumpSeatView};
-ghost use Rattle.dump_workers.specs.Windows.{KeepsDrawn, LeavesServed, MayServe, NotesReadings, ServesWindow};
+ghost use Rattle.dump_workers.specs.Windows.{EachMayServe, EachServed, KeepsDrawn, LeavesServed, MayServe, NotesReadings, ServesWindow};
 
+use crate::desk::Desk;
+use crate::handing::{DumpedFile, Hatch};
 use crate::reading::{Reading, UnitRead};
 use crate::refused::FileDraws;
 use crate::seat::{DumpSeat, Work};
-use crate::serving::{Serves, serve_each};
-use crate::unit::read_unit;
+use crate::serving::{Runs, Serves, serve_beside};
+use crate::unit::{read_unit, room_for_text};
 use abbrev_decl::Steps;
 use bumpalo::Bump;
 use dw_outside::Gate;
@@ -75,6 +77,7 @@ fn tell_refused<'f>(handle: &Handle<'f>, draws: &FileDraws, seat: &mut DrawSeat,
         UnitRead::Refused(_) => draws.lower(seat, reading.unit),
         UnitRead::Whole { .. } => {}
         UnitRead::Skipped => {}
+        UnitRead::Handed => {}
     }
 }
 
@@ -92,6 +95,7 @@ fn read_drawn<'f, G: Gate, L>(
     worker: u32,
     window: u32,
     unit: u32,
+    text: Vec<u8>,
     pass: &mut HandlePass<'f>,
     walker: &mut TableWalker<'f>,
     steps: &mut Steps<L>,
@@ -122,7 +126,7 @@ fn read_drawn<'f, G: Gate, L>(
         return Ok(Reading { unit, read });
     }
     gate.enter(worker, unit);
-    let read = read_unit(alloc, arena, handle, pass, walker, unit, steps);
+    let read = read_unit(alloc, arena, handle, pass, walker, unit, text, steps);
     gate.leave(worker, unit);
     match read {
         Ok(reading) => {
@@ -133,12 +137,28 @@ fn read_drawn<'f, G: Gate, L>(
     }
 }
 
-/// Draws units of the window until none is left, and reads each of them. The arena and the walker serve one after
-/// another.
+/// Memory for the text of a unit: what the desk has, or new.
+fn text_for<N: DumpedFile, D: Desk<N>>(
+    alloc: Global,
+    handle: &Handle<'_>,
+    unit: u32,
+    desk: &mut D,
+) -> Vec<u8>
+    requires { unit < unit_count (sections_in handle.now).info (sections_in handle.now).order }
+    ensures { D.goes desk.old desk.new }
+{
+    match desk.buffer() {
+        Some(text) => text,
+        None => room_for_text(alloc, handle, unit),
+    }
+}
+
+/// Draws units of the window until none is left, reads each of them, and lets the desk have its text. The arena and
+/// the walker serve one after another.
 ///
 /// # Errors
 /// Want of memory.
-fn work_window<'f, G: Gate, L>(
+fn work_window<'f, G: Gate, N: DumpedFile, D: Desk<N>, L>(
     alloc: Global,
     handle: &Handle<'f>,
     draws: &FileDraws,
@@ -148,7 +168,9 @@ fn work_window<'f, G: Gate, L>(
     pass: &mut HandlePass<'f>,
     steps: &mut Steps<L>,
     seat: &mut DrawSeat,
+    desk: &mut D,
 ) -> Result<Vec<Reading>, AllocError>
+    requires name { sections_in handle.now ≡ N.sections }
     requires belongs { Belongs handle.now pass.old }
     requires units { draws.now.sizes.units
         ≡ unit_count (sections_in handle.now).info (sections_in handle.now).order }
@@ -164,11 +186,13 @@ fn work_window<'f, G: Gate, L>(
         (λ readings. NotesReadings (sections_in handle.now) pass.new readings.items) }
     ensures gains { OnOk result (GainsUnits (sections_in handle.now) pass.old pass.new) }
     ensures counts { CountsUnits (sections_in handle.now) pass.old steps.old steps.new }
+    ensures goes { D.goes desk.old desk.new }
 {
     let mut arena = Bump::new(alloc);
     let mut walker = TableWalker::new(alloc, handle.sections().abbrev);
     let mut readings = Vec::new(alloc);
     'units: while let Some(unit) = draws.draw(seat, window) {
+        let text = text_for(alloc, handle, unit, desk);
         let read = read_drawn(
             alloc,
             &arena,
@@ -178,12 +202,17 @@ fn work_window<'f, G: Gate, L>(
             worker,
             window,
             unit,
+            text,
             pass,
             &mut walker,
             steps,
             seat,
         );
         let reading = match read {
+            Ok(reading) => reading,
+            Err(_) => return Err(AllocError),
+        };
+        let reading = match desk.hand(reading) {
             Ok(reading) => reading,
             Err(_) => return Err(AllocError),
         };
@@ -198,12 +227,14 @@ fn work_window<'f, G: Gate, L>(
 
 /// The work of a window.
 #[derive(Drop)]
-struct WindowWork<'w, 'f, G> {
+struct WindowWork<'w, 'f, G, N: DumpedFile> {
     alloc: Global,
     handle: &'w Handle<'f>,
     draws: &'w FileDraws,
     gate: &'w G,
+    hatch: &'w Hatch<N>,
     window: u32,
+    ghost name: { sections_in handle.now ≡ N.sections },
     ghost units: { draws.now.sizes.units
         ≡ unit_count (sections_in handle.now).info (sections_in handle.now).order },
     ghost tag: { draws.now.tag ≡ handle.now.file },
@@ -211,7 +242,7 @@ struct WindowWork<'w, 'f, G> {
 }
 
 /// Serves the window in one seat.
-fn serve_seat<'f, G: Gate, L>(
+fn serve_seat<'f, G: Gate, N: DumpedFile, D: Desk<N>, L>(
     alloc: Global,
     handle: &Handle<'f>,
     draws: &FileDraws,
@@ -219,13 +250,16 @@ fn serve_seat<'f, G: Gate, L>(
     worker: u32,
     window: u32,
     seat: &mut DumpSeat<'f, L>,
+    desk: &mut D,
 )
+    requires name { sections_in handle.now ≡ N.sections }
     requires serve { MayServe handle.now draws.now window seat.old }
     requires units { draws.now.sizes.units
         ≡ unit_count (sections_in handle.now).info (sections_in handle.now).order }
     requires tag { draws.now.tag ≡ handle.now.file }
     requires window { window < window_count draws.now.sizes.units }
-    ensures { LeavesServed handle.now draws.now window seat.old seat.new }
+    ensures leaves { LeavesServed handle.now draws.now window seat.old seat.new }
+    ensures goes { D.goes desk.old desk.new }
 {
     match seat.change(Work::Idle) {
         Work::Drawing(mut draw) => {
@@ -239,6 +273,7 @@ fn serve_seat<'f, G: Gate, L>(
                 &mut seat.pass,
                 &mut seat.steps,
                 &mut draw,
+                desk,
             ) {
                 Ok(readings) => {
                     seat.change(Work::Drawn {
@@ -254,57 +289,151 @@ fn serve_seat<'f, G: Gate, L>(
     }
 }
 
-impl<'w, 'f, G: Gate, L> Serves<DumpSeat<'f, L>> for WindowWork<'w, 'f, G> {
-    ghost use Rattle.std.specs.Prelude.{◌<◌};
+impl<'w, 'f, G: Gate, N: DumpedFile, L> Serves<DumpSeat<'f, L>> for WindowWork<'w, 'f, G, N> {
+    ghost use Rattle.std.specs.Prelude.{◌+◌, ◌<◌};
     ghost use Rattle.dump_workers.specs.declared.serving.TheConstants.{MOST_WORKERS};
     ghost use Rattle.dump_workers.specs.Windows.{LeavesServed, MayServe};
 
-    ghost accepts = { λ w i seat. (i < MOST_WORKERS)
+    ghost accepts = { λ w i seat. (i + 1 < MOST_WORKERS)
         × MayServe w.handle.now w.draws.now w.window seat };
 
     ghost gives = { λ w i old new. LeavesServed w.handle.now w.draws.now w.window old new };
 
     fn serve(&self, worker: usize, seat: &mut DumpSeat<'f, L>) {
+        let mut desk = self.hatch.seat();
         serve_seat(
             self.alloc,
             self.handle,
             self.draws,
             self.gate,
-            worker as u32,
+            worker as u32 + 1,
             self.window,
             seat,
+            &mut desk,
         );
     }
 }
 
-/// Serves the window in all seats, in a thread each.
-pub(crate) fn serve_all<'f, R: Threads + Sync, G: Gate + Sync, L: Send>(
+/// The work of the first worker, whose desk is the caller's.
+#[derive(Drop)]
+struct FirstWork<'a, 'b, 'w, 'f, G, N: DumpedFile, D: Desk<N>> {
+    work: &'a WindowWork<'w, 'f, G, N>,
+    desk: &'b mut D,
+}
+
+impl<'a, 'b, 'w, 'f, G: Gate, N: DumpedFile, D: Desk<N>, L> Runs<DumpSeat<'f, L>>
+    for FirstWork<'a, 'b, 'w, 'f, G, N, D> {
+    ghost use Rattle.dump_workers.specs.Windows.{LeavesServed, MayServe};
+
+    ghost ready = { λ f seat. MayServe f.work.now.handle.now f.work.now.draws.now
+        f.work.now.window seat };
+
+    ghost moves = { λ x y. (y.desk.ghost_name ≡ x.desk.ghost_name)
+        × D.Desk.goes x.desk.now y.desk.now };
+
+    ghost ran = { λ x old new. LeavesServed x.work.now.handle.now x.work.now.draws.now
+        x.work.now.window old new };
+
+    fn run(&mut self, seat: &mut DumpSeat<'f, L>) {
+        let work = self.work;
+        serve_seat(
+            work.alloc,
+            work.handle,
+            work.draws,
+            work.gate,
+            0,
+            work.window,
+            seat,
+            self.desk,
+        );
+    }
+}
+
+/// Serves the window in these seats: in the first one by the calling thread, at this desk, and in each other one in a
+/// thread of its own, which hands its texts on.
+fn serve_split<
+    'f,
+    R: Threads + Sync,
+    G: Gate + Sync,
+    N: DumpedFile + Send + Sync,
+    D: Desk<N>,
+    L: Send,
+>(
     rt: &R,
     alloc: Global,
     handle: &Handle<'f>,
     draws: &FileDraws,
     gate: &G,
+    hatch: &Hatch<N>,
     window: u32,
-    seats: &mut Vec<DumpSeat<'f, L>>,
+    seats: &mut [DumpSeat<'f, L>],
+    desk: &mut D,
 )
-    requires few { length seats.old.items ≤ MOST_WORKERS }
-    requires serve { (i : ℕ) (d : DumpSeatView) → i < length seats.old.items
-        → MayServe handle.now draws.now window (slice_index_or seats.old.items i d) }
+    requires name { sections_in handle.now ≡ N.sections }
+    requires some { 0 < length seats.old }
+    requires few { length seats.old ≤ MOST_WORKERS }
+    requires serve { EachMayServe handle.now draws.now window seats.old }
     requires units { draws.now.sizes.units
         ≡ unit_count (sections_in handle.now).info (sections_in handle.now).order }
     requires tag { draws.now.tag ≡ handle.now.file }
     requires window { window < window_count draws.now.sizes.units }
-    ensures length { length seats.new.items ≡ length seats.old.items }
-    ensures each { (i : ℕ) (d : DumpSeatView) → i < length seats.old.items
-        → LeavesServed handle.now draws.now window (slice_index_or seats.old.items i d)
-        (slice_index_or seats.new.items i d) }
+    ensures served { EachServed handle.now draws.now window seats.old seats.new }
+    ensures goes { D.goes desk.old desk.new }
 {
     let work = WindowWork {
         alloc,
         handle,
         draws,
         gate,
+        hatch,
         window,
     };
-    serve_each(rt, &work, seats.as_mut_slice());
+    let mut mine = FirstWork {
+        work: &work,
+        desk: &mut *desk,
+    };
+    serve_beside(rt, &work, &mut mine, seats);
+}
+
+/// Serves the window in all seats, the first of them at this desk.
+pub(crate) fn serve_all<
+    'f,
+    R: Threads + Sync,
+    G: Gate + Sync,
+    N: DumpedFile + Send + Sync,
+    D: Desk<N>,
+    L: Send,
+>(
+    rt: &R,
+    alloc: Global,
+    handle: &Handle<'f>,
+    draws: &FileDraws,
+    gate: &G,
+    hatch: &Hatch<N>,
+    window: u32,
+    seats: &mut Vec<DumpSeat<'f, L>>,
+    desk: &mut D,
+)
+    requires name { sections_in handle.now ≡ N.sections }
+    requires some { 0 < length seats.old.items }
+    requires few { length seats.old.items ≤ MOST_WORKERS }
+    requires serve { EachMayServe handle.now draws.now window seats.old.items }
+    requires units { draws.now.sizes.units
+        ≡ unit_count (sections_in handle.now).info (sections_in handle.now).order }
+    requires tag { draws.now.tag ≡ handle.now.file }
+    requires window { window < window_count draws.now.sizes.units }
+    ensures served { EachServed handle.now draws.now window seats.old.items seats.new.items }
+    ensures goes { D.goes desk.old desk.new }
+{
+    serve_split(
+        rt,
+        alloc,
+        handle,
+        draws,
+        gate,
+        hatch,
+        window,
+        seats.as_mut_slice(),
+        desk,
+    );
 }

@@ -1,30 +1,28 @@
+use Rattle.std.proofs.Common.{refl}
 use Rattle.handle_cache.specs.Handles.{sections_in}
 use Rattle.dump_workers.proofs.PassLaws.{each_owns, passes_kept, whole_none}
-use Rattle.dump_workers.proofs.SeatLaws.{each_belongs, each_counts_same, each_length, each_same}
-use Rattle.dump_workers.proofs.WindowLaws.{on_ok, stands_first}
+use Rattle.dump_workers.proofs.SeatLaws.{each_belongs, each_length}
+use Rattle.dump_workers.proofs.WindowLaws.{on_ok}
 use Rattle.dump_workers.proofs.file_dump.dump.Goals as goal
 
-pub dump_windows-requires-clause-stands : goal.dump_windows-requires-clause-stands
-dump_windows-requires-clause-stands g c κs within = stands_first c.in-Ok.draws c.in-Ok.first c.in-Ok.ensures.of c.in-Ok.ensures.seat c.in-Ok.ensures.seats
+pub returns-clause-none : goal.returns-clause-none
+returns-clause-none g c =
+    whole_none (sections_in c.args.handle.now) c.dump_file.result (g.O.Sink.held c.args.out.now) (g.O.Sink.held c.dump_file.new.out) c.dump_file.ensures.dump
 
-pub returns-in-Ok-clause-none : goal.returns-in-Ok-clause-none
-returns-in-Ok-clause-none g c =
-    whole_none (sections_in c.args.handle.now) c.dump_windows.result (g.O.Sink.held c.args.out.now) (g.O.Sink.held c.dump_windows.new.out) c.dump_windows.ensures.dump
+pub returns-clause-belong : goal.returns-clause-belong
+returns-clause-belong g c =
+    each_belongs c.args.handle.now c.args.seats.now.items c.dump_file.new.seats.items c.requires.belong c.dump_file.ensures.follow
 
-pub returns-in-Ok-clause-belong : goal.returns-in-Ok-clause-belong
-returns-in-Ok-clause-belong g c =
-    each_belongs c.args.handle.now c.args.seats.now.items c.dump_windows.new.seats.items c.requires.belong c.dump_windows.ensures.follow
+pub returns-clause-passes : goal.returns-clause-passes
+returns-clause-passes g c = passes_kept c.args.seats.now.items c.dump_file.new.seats.items c.dump_file.ensures.follow
 
-pub returns-in-Ok-clause-passes : goal.returns-in-Ok-clause-passes
-returns-in-Ok-clause-passes g c = passes_kept c.args.seats.now.items c.dump_windows.new.seats.items c.dump_windows.ensures.follow
+pub returns-clause-only : goal.returns-clause-only
+returns-clause-only g c =
+    on_ok c.dump_file.result _ _ c.dump_file.ensures.gains
+    (λ gains none owns. each_owns (sections_in c.args.handle.now) c.args.seats.now.items c.dump_file.new.seats.items gains none owns)
 
-pub returns-in-Ok-clause-only : goal.returns-in-Ok-clause-only
-returns-in-Ok-clause-only g c =
-    on_ok c.dump_windows.result _ _ c.dump_windows.ensures.gains
-    (λ gains none owns. each_owns (sections_in c.args.handle.now) c.args.seats.now.items c.dump_windows.new.seats.items gains none owns)
-
-pub returns-in-Ok-clause-size : goal.returns-in-Ok-clause-size
-returns-in-Ok-clause-size g c = each_length c.args.seats.now.items c.dump_windows.new.seats.items c.dump_windows.ensures.follow
+pub returns-clause-size : goal.returns-clause-size
+returns-clause-size g c = each_length c.args.seats.now.items c.dump_file.new.seats.items c.dump_file.ensures.follow
 
 pub returns-then-len-eq1-clause-none : goal.returns-then-len-eq1-clause-none
 returns-then-len-eq1-clause-none g c =
@@ -42,8 +40,5 @@ returns-then-len-eq1-clause-only g c =
     on_ok c.dump_alone.result _ _ c.dump_alone.ensures.gains
     (λ gains none owns. each_owns (sections_in c.args.handle.now) c.args.seats.now.items c.dump_alone.new.seats.items gains none owns)
 
-pub returns-clause-follow : goal.returns-clause-follow
-returns-clause-follow g c = each_same c.args.seats.now.items
-
-pub returns-clause-counts : goal.returns-clause-counts
-returns-clause-counts g c = each_counts_same (sections_in c.args.handle.now) c.args.seats.now.items
+pub dump_file-requires-clause-name : goal.dump_file-requires-clause-name
+dump_file-requires-clause-name g c κs within = refl

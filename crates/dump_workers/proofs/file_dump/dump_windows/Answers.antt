@@ -4,12 +4,11 @@ use Rattle.unit_headers.specs.Headers.{unit_count}
 use Rattle.unit_headers.specs.Units.{Units}
 use Rattle.unit_draws.specs.Windows.{window_count}
 use Rattle.unit_draws.specs.declared.windows.TheConstants.{WINDOW}
-use Rattle.dump_workers.specs.declared.ends.DumpFault.TheVariants as dump_faults
 use Rattle.dump_workers.specs.Dumps.{Prints, dump_from}
 use Rattle.dump_workers.specs.UnitDumps.{entries_from}
 use Rattle.dump_workers.specs.Windows.{NoteBelow}
 use Rattle.dump_workers.proofs.SeatLaws.{each_counts_same, each_counts_then, each_gains_same, each_gains_then, each_length, each_same, each_then}
-use Rattle.dump_workers.proofs.WindowSums.{entries_begin, entries_whole, entries_window, notes_begin, notes_whole, notes_window, refuses_some, units_below, windows_begin, windows_done, windows_end, windows_stop, windows_then, windows_unread}
+use Rattle.dump_workers.proofs.WindowSums.{entries_begin, entries_whole, entries_window, notes_begin, notes_whole, notes_window, refuses_some, units_below, windows_begin, windows_done, windows_end, windows_stop, windows_then}
 use Rattle.dump_workers.proofs.file_dump.dump_windows.Goals as goal
 
 pub windows-init : goal.windows-init
@@ -29,22 +28,8 @@ windows-init g c =
       later = omega arith;
     }
 
-pub returns-in-Err-clause-dump : goal.returns-in-Err-clause-dump
-returns-in-Err-clause-dump g c =
-    let s = sections_in c.args.handle.now in
-    let count : c.count-units.result ≡ unit_count s.info s.order = c.count-units.ensures.count ∙ ap (λ (u : Units). unit_count u.info u.order) c.index.ensures in
-    windows_unread s c.count-units.result c.windows.window (g.O.Sink.held c.args.out.now) (g.O.Sink.held c.windows.out) dump_faults.OutOfMemory count c.windows.invariant.printed
-
-pub returns-in-Err-clause-follow : goal.returns-in-Err-clause-follow
-returns-in-Err-clause-follow g c = each_then c.args.seats.now.items c.windows.seats.items c.read_window.new.seats.items c.windows.invariant.follow c.in-Err.ensures.follow
-
-pub returns-in-Err-clause-counts : goal.returns-in-Err-clause-counts
-returns-in-Err-clause-counts g c =
-    each_counts_then (sections_in c.args.handle.now) c.args.seats.now.items c.windows.seats.items c.read_window.new.seats.items
-    c.windows.invariant.follow c.windows.invariant.counts c.in-Err.ensures.counts
-
-pub returns-in-Ok-Some-clause-dump : goal.returns-in-Ok-Some-clause-dump
-returns-in-Ok-Some-clause-dump g c =
+pub returns-in-Ok-default-Some-clause-dump : goal.returns-in-Ok-default-Some-clause-dump
+returns-in-Ok-default-Some-clause-dump g c =
     let s = sections_in c.args.handle.now in
     let units : ℕ = c.count-units.result in
     let w : ℕ = c.windows.window in
@@ -52,24 +37,24 @@ returns-in-Ok-Some-clause-dump g c =
     let all = c.count_windows-window-end.ensures in
     let below : w < window_count units = omega (arith, all, c.windows-test.true) in
     let end_is : c.min-end.result ≡ units_below units (w + 1) = let e = c.min-end.ensures in omega (arith, e) in
-    windows_end s units w (WINDOW * w) c.min-end.result (g.O.Sink.held c.args.out.now) (g.O.Sink.held c.windows.out) (g.O.Sink.held c.print_units.new.out) c.in-Ok-Some.refused
-    refl (omega (arith, below, end_is)) (omega (arith, end_is)) count c.windows.invariant.printed (rw c.in-Ok-Some.field-0-is at c.in-Ok-Some.ensures.printed)
+    windows_end s units w (WINDOW * w) c.min-end.result (g.O.Sink.held c.args.out.now) (g.O.Sink.held c.windows.out) (g.O.Sink.held c.dump_window.new.out) c.in-Ok-default-Some.refused
+    refl (omega (arith, below, end_is)) (omega (arith, end_is)) count c.windows.invariant.printed (rw c.in-Ok-default-Some.field-0-1-is at c.in-Ok-default-Some.ensures.printed)
 
-pub returns-in-Ok-Some-clause-follow : goal.returns-in-Ok-Some-clause-follow
-returns-in-Ok-Some-clause-follow g c = each_then c.args.seats.now.items c.windows.seats.items c.read_window.new.seats.items c.windows.invariant.follow c.in-Ok.ensures.follow
+pub returns-in-Ok-default-Some-clause-follow : goal.returns-in-Ok-default-Some-clause-follow
+returns-in-Ok-default-Some-clause-follow g c = each_then c.args.seats.now.items c.windows.seats.items c.dump_window.new.seats.items c.windows.invariant.follow c.in-Ok-default-Some.ensures.follow
 
-pub returns-in-Ok-Some-clause-gains : goal.returns-in-Ok-Some-clause-gains
-returns-in-Ok-Some-clause-gains g c =
-    each_gains_then (sections_in c.args.handle.now) c.args.seats.now.items c.windows.seats.items c.read_window.new.seats.items
-    c.windows.invariant.gains c.in-Ok.ensures.gains
+pub returns-in-Ok-default-Some-clause-gains : goal.returns-in-Ok-default-Some-clause-gains
+returns-in-Ok-default-Some-clause-gains g c =
+    each_gains_then (sections_in c.args.handle.now) c.args.seats.now.items c.windows.seats.items c.dump_window.new.seats.items
+    c.windows.invariant.gains c.in-Ok-default-Some.ensures.gains
 
-pub returns-in-Ok-Some-clause-counts : goal.returns-in-Ok-Some-clause-counts
-returns-in-Ok-Some-clause-counts g c =
-    each_counts_then (sections_in c.args.handle.now) c.args.seats.now.items c.windows.seats.items c.read_window.new.seats.items
-    c.windows.invariant.follow c.windows.invariant.counts c.in-Ok.ensures.counts
+pub returns-in-Ok-default-Some-clause-counts : goal.returns-in-Ok-default-Some-clause-counts
+returns-in-Ok-default-Some-clause-counts g c =
+    each_counts_then (sections_in c.args.handle.now) c.args.seats.now.items c.windows.seats.items c.dump_window.new.seats.items
+    c.windows.invariant.follow c.windows.invariant.counts c.in-Ok-default-Some.ensures.counts
 
-pub returns-in-Ok-Some-clause-noted : goal.returns-in-Ok-Some-clause-noted
-returns-in-Ok-Some-clause-noted g c =
+pub returns-in-Ok-default-Some-clause-noted : goal.returns-in-Ok-default-Some-clause-noted
+returns-in-Ok-default-Some-clause-noted g c =
     let s = sections_in c.args.handle.now in
     let units : ℕ = c.count-units.result in
     let w : ℕ = c.windows.window in
@@ -78,11 +63,11 @@ returns-in-Ok-Some-clause-noted g c =
     let below : w < window_count units = omega (arith, all, c.windows-test.true) in
     let end_is : c.min-end.result ≡ units_below units (w + 1) = let e = c.min-end.ensures in omega (arith, e) in
     let inside : WINDOW * w + (c.min-end.result - WINDOW * w) ≤ unit_count s.info s.order = omega (arith, below, end_is, count) in
-    λ none. refuses_some s (WINDOW * w) (c.min-end.result - WINDOW * w) c.in-Ok-Some.refused (g.O.Sink.held c.windows.out) (g.O.Sink.held c.print_units.new.out)
-    inside (rw c.in-Ok-Some.field-0-is at c.in-Ok-Some.ensures.printed) none
+    λ none. refuses_some s (WINDOW * w) (c.min-end.result - WINDOW * w) c.in-Ok-default-Some.refused (g.O.Sink.held c.windows.out) (g.O.Sink.held c.dump_window.new.out)
+    inside (rw c.in-Ok-default-Some.field-0-1-is at c.in-Ok-default-Some.ensures.printed) none
 
-pub returns-in-Err-print_units-clause-dump : goal.returns-in-Err-print_units-clause-dump
-returns-in-Err-print_units-clause-dump g c =
+pub returns-in-Err-clause-dump : goal.returns-in-Err-clause-dump
+returns-in-Err-clause-dump g c =
     let s = sections_in c.args.handle.now in
     let units : ℕ = c.count-units.result in
     let w : ℕ = c.windows.window in
@@ -90,17 +75,17 @@ returns-in-Err-print_units-clause-dump g c =
     let all = c.count_windows-window-end.ensures in
     let below : w < window_count units = omega (arith, all, c.windows-test.true) in
     let end_is : c.min-end.result ≡ units_below units (w + 1) = let e = c.min-end.ensures in omega (arith, e) in
-    windows_stop s units w (WINDOW * w) c.min-end.result (g.O.Sink.held c.args.out.now) (g.O.Sink.held c.windows.out) (g.O.Sink.held c.print_units.new.out) c.in-Err-print_units.fault
-    refl (omega (arith, below, end_is)) (omega (arith, end_is)) count c.windows.invariant.printed c.in-Err-print_units.ensures.printed
+    windows_stop s units w (WINDOW * w) c.min-end.result (g.O.Sink.held c.args.out.now) (g.O.Sink.held c.windows.out) (g.O.Sink.held c.dump_window.new.out) c.in-Err.fault
+    refl (omega (arith, below, end_is)) (omega (arith, end_is)) count c.windows.invariant.printed c.in-Err.ensures.part
 
-pub returns-in-Err-print_units-clause-follow : goal.returns-in-Err-print_units-clause-follow
-returns-in-Err-print_units-clause-follow g c =
-    each_then c.args.seats.now.items c.windows.seats.items c.read_window.new.seats.items c.windows.invariant.follow c.in-Ok.ensures.follow
+pub returns-in-Err-clause-follow : goal.returns-in-Err-clause-follow
+returns-in-Err-clause-follow g c =
+    each_then c.args.seats.now.items c.windows.seats.items c.dump_window.new.seats.items c.windows.invariant.follow c.in-Err.ensures.follow
 
-pub returns-in-Err-print_units-clause-counts : goal.returns-in-Err-print_units-clause-counts
-returns-in-Err-print_units-clause-counts g c =
-    each_counts_then (sections_in c.args.handle.now) c.args.seats.now.items c.windows.seats.items c.read_window.new.seats.items
-    c.windows.invariant.follow c.windows.invariant.counts c.in-Ok.ensures.counts
+pub returns-in-Err-clause-counts : goal.returns-in-Err-clause-counts
+returns-in-Err-clause-counts g c =
+    each_counts_then (sections_in c.args.handle.now) c.args.seats.now.items c.windows.seats.items c.dump_window.new.seats.items
+    c.windows.invariant.follow c.windows.invariant.counts c.in-Err.ensures.counts
 
 pub windows-preserved : goal.windows-preserved
 windows-preserved g c =
@@ -115,24 +100,23 @@ windows-preserved g c =
     let end_is : end ≡ units_below units (w + 1) = let e = c.min-end.ensures in omega (arith, e) in
     let order : WINDOW * w ≤ end = omega (arith, below, end_is) in
     let inside : end ≤ units = omega (arith, end_is) in
-    let whole : c.print_units.result ≡ Ok None = c.in-Ok-None.is ∙ ap (λ x. Ok x) c.in-Ok-None.field-0-is in
     record {
-      printed = subst (λ (n : ℕ). Prints (Ok None) (dump_from s 0 n) (g.O.Sink.held c.args.out.now) (g.O.Sink.held c.print_units.new.out)) end_is
-          (windows_then s units w (WINDOW * w) end (g.O.Sink.held c.args.out.now) (g.O.Sink.held c.windows.out) (g.O.Sink.held c.print_units.new.out) (Ok None)
-          refl order inside before.printed (rw c.in-Ok-None.field-0-is at c.in-Ok-None.ensures.printed));
-      entries = entries_window s units w (WINDOW * w) end c.windows.entries c.print_units.new.entries refl order inside before.entries (c.print_units.ensures.entries whole)
+      printed = subst (λ (n : ℕ). Prints (Ok None) (dump_from s 0 n) (g.O.Sink.held c.args.out.now) (g.O.Sink.held c.dump_window.new.out)) end_is
+          (windows_then s units w (WINDOW * w) end (g.O.Sink.held c.args.out.now) (g.O.Sink.held c.windows.out) (g.O.Sink.held c.dump_window.new.out) (Ok None)
+          refl order inside before.printed (rw c.in-Ok-default-None.field-0-1-is at c.in-Ok-default-None.ensures.printed));
+      entries = entries_window s units w (WINDOW * w) end c.windows.entries c.dump_window.new.entries refl order inside before.entries (c.in-Ok-default-None.ensures.entries c.in-Ok-default-None.field-0-1-is)
           ∙ ap (entries_from s 0) end_is;
-      room = let room = c.print_units.ensures.room whole in omega (arith, room, end_is);
-      belong = c.in-Ok.ensures.belong;
-      follow = each_then c.args.seats.now.items c.windows.seats.items c.read_window.new.seats.items before.follow c.in-Ok.ensures.follow;
-      gains = each_gains_then s c.args.seats.now.items c.windows.seats.items c.read_window.new.seats.items before.gains c.in-Ok.ensures.gains;
-      counts = each_counts_then s c.args.seats.now.items c.windows.seats.items c.read_window.new.seats.items before.follow before.counts c.in-Ok.ensures.counts;
-      noted = λ none. subst (λ (n : ℕ). NoteBelow s n c.read_window.new.seats.items) end_is
-          (notes_window s units w end c.windows.seats.items c.read_window.new.seats.items (omega (arith, end_is)) c.in-Ok.ensures.follow (before.noted none) count
-          (c.in-Ok.ensures.noted none));
-      stands = c.in-Ok.ensures.stands;
-      size = each_length c.windows.seats.items c.read_window.new.seats.items c.in-Ok.ensures.follow ∙ before.size;
-      later = let a = before.later in let b = c.print_units.ensures.cause.later in omega (arith, a, b);
+      room = let room = c.in-Ok-default-None.ensures.room c.in-Ok-default-None.field-0-1-is in omega (arith, room, end_is);
+      belong = c.in-Ok-default-None.ensures.belong;
+      follow = each_then c.args.seats.now.items c.windows.seats.items c.dump_window.new.seats.items before.follow c.in-Ok-default-None.ensures.follow;
+      gains = each_gains_then s c.args.seats.now.items c.windows.seats.items c.dump_window.new.seats.items before.gains c.in-Ok-default-None.ensures.gains;
+      counts = each_counts_then s c.args.seats.now.items c.windows.seats.items c.dump_window.new.seats.items before.follow before.counts c.in-Ok-default-None.ensures.counts;
+      noted = λ none. subst (λ (n : ℕ). NoteBelow s n c.dump_window.new.seats.items) end_is
+          (notes_window s units w end c.windows.seats.items c.dump_window.new.seats.items (omega (arith, end_is)) c.in-Ok-default-None.ensures.follow (before.noted none) count
+          (c.in-Ok-default-None.ensures.noted none));
+      stands = c.in-Ok-default-None.ensures.stands;
+      size = each_length c.windows.seats.items c.dump_window.new.seats.items c.in-Ok-default-None.ensures.follow ∙ before.size;
+      later = let a = before.later in let b = c.dump_window.ensures.cause.later in omega (arith, a, b);
     }
 
 pub returns-clause-dump : goal.returns-clause-dump

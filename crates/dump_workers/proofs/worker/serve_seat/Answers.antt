@@ -6,8 +6,8 @@ use Rattle.dump_workers.specs.Seats.{DumpSeatView}
 use Rattle.dump_workers.proofs.ServingLaws.{leaves_drawn}
 use Rattle.dump_workers.proofs.worker.serve_seat.Goals as goal
 
-pub returns-in-Ok : goal.returns-in-Ok
-returns-in-Ok g c =
+pub returns-in-Ok-clause-leaves : goal.returns-in-Ok-clause-leaves
+returns-in-Ok-clause-leaves g c =
     let pass : c.seat.inside.pass ≡ c.args.seat.now.pass = ap (λ (x : DumpSeatView). x.pass) c.seat.view_is ∙ ap (λ (x : DumpSeatView). x.pass) c.change.ensures.new in
     let steps : c.seat.inside.steps ≡ c.args.seat.now.steps = ap (λ (x : DumpSeatView). x.steps) c.seat.view_is ∙ ap (λ (x : DumpSeatView). x.steps) c.change.ensures.new in
     leaves_drawn c.args.handle.now c.args.draws.now c.args.window c.args.seat.now c.change-in-Ok.new.self c.in-Drawing.draw c.work_window.new.seat c.in-Ok.readings

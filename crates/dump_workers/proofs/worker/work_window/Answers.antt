@@ -1,4 +1,4 @@
-use Rattle.std.proofs.Common.{◌∙◌, ◌++◌, ◌∷◌, [], ℕ, refl, ap, subst, arith, ◌≡◌}
+use Rattle.std.proofs.Common.{◌∙◌, ◌++◌, ◌∷◌, [], ℕ, refl, ap, subst, sym, arith, ◌≡◌}
 use Rattle.std.proofs.lemmas.List.Elements.{All-nil, All-push}
 use Rattle.elf_sections.specs.Shapes.{SectionsView}
 use Rattle.map_cells.specs.FollowLaws.{follows_same, follows_then}
@@ -9,7 +9,7 @@ use Rattle.unit_draws.specs.Windows.{IsUnitOfWindow}
 use Rattle.unit_draws.proofs.Occurrences.{occurrences-nil}
 use Rattle.unit_headers.specs.Headers.{unit_count}
 use Rattle.dump_workers.specs.declared.reading.Reading.{Reading}
-use Rattle.dump_workers.specs.Readings.{IsReading}
+use Rattle.dump_workers.specs.Readings.{IsRead, IsReading}
 use Rattle.dump_workers.proofs.DrawLaws.{keeps_same, keeps_then, serves_whole}
 use Rattle.dump_workers.proofs.UnitKeys.{counts_same, counts_then, gains_same, gains_then}
 use Rattle.dump_workers.proofs.ReadingLaws.{drawn_more, notes_more, notes_none, reading_of}
@@ -30,6 +30,7 @@ units-init g c =
       gains = gains_same s c.args.pass.now;
       counts = counts_same s c.args.pass.now c.args.steps.now;
       walks = c.new-walker.ensures ∙ ap (λ (x : SectionsView). x.«abbrev») c.sections.ensures.sections;
+      goes = g.met.D.Desk.stays c.args.desk.now;
     }
 
 pub units-preserved : goal.units-preserved
@@ -37,7 +38,9 @@ units-preserved g c =
     let s = sections_in c.args.handle.now in
     let before = c.units.invariant in
     let unit : ℕ = c.in-Some.unit in
-    let r : Reading = c.in-Ok.reading in
+    let r : Reading = c.in-Ok-hand.reading in
+    let same : r.unit ≡ unit = c.in-Ok-hand.ensures.unit ∙ c.in-Ok.ensures.unit in
+    let read : IsRead s unit r.read = subst (λ (u : ℕ). IsRead s u r.read) same (subst (λ (x : SectionsView). IsRead x r.unit r.read) (sym c.requires.name) c.in-Ok-hand.ensures.read) in
     let added : c.add_reading.new.readings.items ≡ c.units.readings.items ++ r ∷ [] = c.in-Ok-add_reading.ensures in
     let drew = c.in-Some.ensures.drawn in
     let told = c.in-Ok.ensures.keeps in
@@ -49,12 +52,14 @@ units-preserved g c =
       keeps = keeps_then c.args.seat.now.knows c.draw.new.seat.knows c.read_drawn-read.new.seat.knows
           (keeps_then c.args.seat.now.knows c.units.seat.knows c.draw.new.seat.knows before.keeps c.in-Some.ensures.numbers) told.numbers;
       ended = told.ended ∙ ap (λ (v : DrawView). v.ended) drew ∙ before.ended;
-      drawn = λ u. ap (occurrences u) (told.drawn ∙ ap (λ (v : DrawView). v.drawn) drew) ∙ rw added (drawn_more u unit c.args.seat.now.knows.drawn c.units.seat.knows.drawn c.units.readings.items r c.in-Ok.ensures.unit (before.drawn u));
-      each = rw added (All-push (IsReading s c.args.window) c.units.readings.items r before.each (reading_of s c.args.window unit r c.in-Ok.ensures.unit inside c.in-Ok.ensures.read));
-      noted = rw added (notes_more s c.units.pass c.read_drawn-read.new.pass unit c.units.readings.items r c.in-Ok.ensures.unit c.in-Ok.ensures.follows before.noted c.in-Ok.ensures.noted);
+      drawn = λ u. ap (occurrences u) (told.drawn ∙ ap (λ (v : DrawView). v.drawn) drew) ∙ rw added (drawn_more u unit c.args.seat.now.knows.drawn c.units.seat.knows.drawn c.units.readings.items r same (before.drawn u));
+      each = rw added (All-push (IsReading s c.args.window) c.units.readings.items r before.each (reading_of s c.args.window unit r same inside read));
+      noted = rw added (notes_more s c.units.pass c.read_drawn-read.new.pass unit c.units.readings.items r same c.in-Ok.ensures.follows before.noted c.in-Ok.ensures.noted);
       gains = gains_then s c.args.pass.now c.units.pass c.read_drawn-read.new.pass before.gains c.in-Ok.ensures.gains;
       counts = counts_then s c.args.pass.now c.units.pass c.args.steps.now c.units.steps c.read_drawn-read.new.steps before.follows before.counts c.in-Ok.ensures.counts;
       walks = c.in-Ok.ensures.walks;
+      goes = g.met.D.Desk.together c.args.desk.now c.text_for-text.new.desk c.hand.new.self
+          (g.met.D.Desk.together c.args.desk.now c.units.desk c.text_for-text.new.desk before.goes c.text_for-text.ensures) c.hand.ensures.goes;
     }
 
 pub returns-clause-serves : goal.returns-clause-serves
@@ -73,3 +78,13 @@ pub returns-in-Err-add_reading-clause-counts : goal.returns-in-Err-add_reading-c
 returns-in-Err-add_reading-clause-counts g c =
     let before = c.units.invariant in
     counts_then (sections_in c.args.handle.now) c.args.pass.now c.units.pass c.args.steps.now c.units.steps c.read_drawn-read.new.steps before.follows before.counts c.in-Ok.ensures.counts
+
+pub returns-in-Err-hand-clause-counts : goal.returns-in-Err-hand-clause-counts
+returns-in-Err-hand-clause-counts g c =
+    let before = c.units.invariant in
+    counts_then (sections_in c.args.handle.now) c.args.pass.now c.units.pass c.args.steps.now c.units.steps c.read_drawn-read.new.steps before.follows before.counts c.in-Ok.ensures.counts
+
+pub returns-in-Err-hand-clause-goes : goal.returns-in-Err-hand-clause-goes
+returns-in-Err-hand-clause-goes g c =
+    g.met.D.Desk.together c.args.desk.now c.text_for-text.new.desk c.hand.new.self
+    (g.met.D.Desk.together c.args.desk.now c.units.desk c.text_for-text.new.desk c.units.invariant.goes c.text_for-text.ensures) c.hand.ensures.goes

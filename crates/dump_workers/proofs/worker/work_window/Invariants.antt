@@ -21,6 +21,7 @@ invariant-units g l = record {
   gains : GainsUnits (sections_in l.handle) l.fn.pass l.pass;
   counts : CountsUnits (sections_in l.handle) l.fn.pass l.fn.steps l.steps;
   walks : l.walker ≡ (sections_in l.handle).«abbrev»;
+  goes : g.D.Desk.goes l.fn.desk l.desk;
 }
 
 abbrev pub decreases-units : goal.decreases-units

@@ -22,7 +22,8 @@ use std::alloc::Global;
 use unit_headers::UnitRefusal;
 use walked_tables::TableWalker;
 
-/// Dumps the units of a file through one pass. The arena, the walker and the text's memory serve one unit after another.
+/// Dumps the units of a file through one pass. The arena, the walker and the text's memory serve one unit after
+/// another.
 ///
 /// # Errors
 /// Those of the sink, and want of memory.

@@ -73,9 +73,11 @@ fn dump_window<
         (sections_in handle.now).order }
     requires room { entries.old ≤ start * 2 ^ 32 }
     ensures printed { IfOk result (λ r. Prints (Ok r.1)
-        (dump_from (sections_in handle.now) start (end - start)) (O.held out.old) (O.held out.new)) }
+        (dump_from (sections_in handle.now) start (end - start))
+        (O.held out.old) (O.held out.new)) }
     ensures part { IfErr result (λ fault. Prints (Err fault)
-        (dump_from (sections_in handle.now) start (end - start)) (O.held out.old) (O.held out.new)) }
+        (dump_from (sections_in handle.now) start (end - start))
+        (O.held out.old) (O.held out.new)) }
     ensures entries { IfOk result (λ r. r.1 ≡ None → entries.new ≡ entries.old
         + entries_from (sections_in handle.now) start (end - start)) }
     ensures room { IfOk result (λ r. r.1 ≡ None → entries.new ≤ end * 2 ^ 32) }
@@ -233,7 +235,8 @@ fn dump_file<'f, R: Threads + Sync, G: Gate + Sync, N: DumpedFile + Send + Sync,
 /// is refused. There is one worker for each seat, in a thread of its own where one can be made. The units
 /// of a window of 256 are drawn one by one and read beside one another. Each text goes out by one `write_all`:
 /// where there are several seats the first one's worker, which is the calling thread, writes the texts whose turn has
-/// come after each unit that it reads, and what is left when the window is read. The gate is entered before each unit is read and left behind it.
+/// come after each unit that it reads, and what is left when the window is read. The gate is entered before each unit
+/// is read and left behind it.
 ///
 /// All seats have passes of this handle's table, at rest; they are so afterwards, whatever the answer is.
 /// Where no unit is refused and a pass has all that the units use, its counter is what it was, whatever the

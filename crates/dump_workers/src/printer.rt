@@ -152,7 +152,8 @@ impl<'q, N: DumpedFile> Printer<'q, N> {
         requires open { self.old.fault ≡ None }
         ensures goes { GoesOn N.sections (printing self.old (O.held out.old) (O.faults out.old))
             (printing self.new (O.held out.new) (O.faults out.new)) }
-        ensures next { IsTrue result → self.new.fault ≡ None → self.new.next ≡ self.old.next + 1 }
+        ensures next { IsTrue result → self.new.fault ≡ None
+            → self.new.next ≡ self.old.next + 1 }
         ensures same { IsFalse result → self.new ≡ self.old }
         ensures still { IsFalse result → out.new ≡ out.old }
     {
@@ -191,7 +192,8 @@ impl<'q, N: DumpedFile> Printer<'q, N> {
         requires open { self.old.fault ≡ None }
         requires name { sections_in handle.now ≡ N.sections }
         requires inside { self.old.end ≤ unit_count N.sections.info N.sections.order }
-        ensures goes { result ≡ None → GoesOn N.sections (printing self.old (O.held out.old) (O.faults out.old))
+        ensures goes { result ≡ None → GoesOn N.sections
+            (printing self.old (O.held out.old) (O.faults out.old))
             (printing self.new (O.held out.new) (O.faults out.new)) }
         ensures next { result ≡ None → self.new.fault ≡ None
             → self.new.next ≡ self.old.next + 1 }
@@ -231,7 +233,8 @@ impl<'q, N: DumpedFile> Printer<'q, N> {
         requires below { self.old.end ≤ WINDOW * (window + 1) }
         requires inside { self.old.end ≤ unit_count N.sections.info N.sections.order }
         requires reads { ReadsWindow N.sections window readings.now }
-        ensures goes { result ≡ None → GoesOn N.sections (printing self.old (O.held out.old) (O.faults out.old))
+        ensures goes { result ≡ None → GoesOn N.sections
+            (printing self.old (O.held out.old) (O.faults out.old))
             (printing self.new (O.held out.new) (O.faults out.new)) }
         ensures next { result ≡ None → self.new.fault ≡ None
             → self.new.next ≡ self.old.next + 1 }

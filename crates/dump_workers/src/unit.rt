@@ -26,7 +26,7 @@ use walked_tables::TableWalker;
 
 /// Puts the text of the unit of a header in the place of what `text` held, and answers how many entries the
 /// unit has. Their declarations are looked up through the pass.
-fn read_entries<'f, L>(
+fn stream_entries<'f, L>(
     alloc: Global,
     arena: &Bump,
     handle: &Handle<'f>,
@@ -107,7 +107,7 @@ pub(crate) fn read_text<'f, L>(
 {
     let header = handle.header(unit)?;
     let facts = handle.unit(pass, unit, steps)?;
-    let entries = read_entries(
+    let entries = stream_entries(
         alloc, arena, handle, pass, walker, &header, &facts, text, steps,
     )?;
     facts_are_of_the_first_entry(handle.sections(), &header);
@@ -134,10 +134,11 @@ pub(crate) fn room_for_text(alloc: Global, handle: &Handle<'_>, unit: u32) -> Ve
     }
 }
 
-/// The same of a unit whose declarations are walked to, without the table.
+/// Reads a unit as [`read_text`] does, but walks to each declaration, without the table.
 ///
 /// # Errors
 /// The first fault of the unit, or want of memory.
+#[cold]
 #[tactic(auto, unfolding(crate::specs::UnitDumps::unit_dump, crate::specs::UnitDumps::unit_entries, crate::specs::UnitDumps::entry_count, entry_tree::specs::Units::unit_facts, unit_text::specs::UnitStreams::streamed_unit))]
 pub(crate) fn read_anew(
     alloc: Global,

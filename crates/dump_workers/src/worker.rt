@@ -180,8 +180,8 @@ fn work_window<'f, G: Gate, N: DumpedFile, D: Desk<N>, L>(
     requires open { occurrences window seat.old.knows.ended ≡ 0 }
     ensures belongs { Belongs handle.now pass.new }
     ensures follows { Follows pass.old pass.new }
-    ensures serves { IfOk result (λ readings. ServesWindow draws.now (sections_in handle.now) window
-        seat.old.knows seat.new readings.items) }
+    ensures serves { IfOk result (λ readings. ServesWindow draws.now (sections_in handle.now)
+        window seat.old.knows seat.new readings.items) }
     ensures noted { IfOk result
         (λ readings. NotesReadings (sections_in handle.now) pass.new readings.items) }
     ensures gains { OnOk result (GainsUnits (sections_in handle.now) pass.old pass.new) }

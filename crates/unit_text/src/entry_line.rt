@@ -23,6 +23,7 @@ fn prepend_entry(line: &mut LineBuffer, entry: &Entry<'_>)
 }
 
 /// Appends the line of an entry, which is made in `line`.
+#[inline(always)]
 pub(crate) fn push_entry_line(
     out: &mut Vec<u8>,
     line: &mut LineBuffer,

@@ -362,6 +362,8 @@ fn put_list(
 
 /// Appends the line of an attribute, which is made in `line`; refused at the attribute's place where its
 /// value can't be resolved.
+// it stands in the loop over attributes, whatever else calls it
+#[inline(always)]
 #[tactic(auto, unfolding(crate::specs::Units::attr_text, crate::specs::Values::value_text))]
 pub(crate) fn put_attr(
     out: &mut Vec<u8>,

@@ -13,6 +13,10 @@ use std::marker::{Brand, PhantomData};
 /// How many texts may be on their way: those of a window.
 const PLACES: usize = 256;
 
+/// How often a worker tries to hand a text on while others are in the way. A text that isn't handed on holds up all
+/// behind it until the window is read.
+const TRIES: usize = 1000;
+
 /// The file that is dumped, as contracts see it. Each dump picks it.
 pub(crate) trait DumpedFile {
     ghost sections: { SectionsView };
@@ -78,11 +82,18 @@ pub(crate) struct HatchSeat<'q, N: DumpedFile> {
 }
 
 impl<'q, N: DumpedFile> HatchSeat<'q, N> {
-    /// Hands a text on, or gives it back where another worker is in the way.
+    /// Hands a text on, or gives it back where other workers are in the way at each try.
     pub(crate) fn give(&mut self, text: UnitText<N>) -> Result<(), UnitText<N>>
         ensures { IfErr result (λ back. back ≡ text) }
     {
-        self.hatch.texts.try_push_as::<Free>(&mut self.texts, text)
+        let mut left = text;
+        'tries: for _ in 0..TRIES {
+            match self.hatch.texts.try_push_as::<Free>(&mut self.texts, left) {
+                Ok(()) => return Ok(()),
+                Err(back) => left = back,
+            }
+        }
+        Err(left)
     }
 
     /// Takes a text that another worker has handed on.
